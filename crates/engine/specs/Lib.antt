@@ -1,0 +1,3 @@
+pub mod Atoms
+pub mod Languages
+pub mod Trees
