@@ -1,0 +1,12 @@
+pub mod Balance
+pub mod Calls
+pub mod Completion
+pub mod Expecting
+pub mod Forests
+pub mod Frames
+pub mod Judging
+pub mod Letters
+pub mod Playing
+pub mod Prefixes
+pub mod Replaying
+pub mod Steps

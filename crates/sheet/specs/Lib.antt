@@ -1,0 +1,11 @@
+pub mod Asks
+pub mod Expect
+pub mod Histories
+pub mod Levels
+pub mod Questions
+pub mod Replies
+pub mod Runs
+pub mod Said
+pub mod Stands
+pub mod States
+pub mod Theorem
