@@ -1,0 +1,5 @@
+pub mod ContentLaws
+pub mod ContentMoves
+pub mod ValueMoves
+pub mod Weeks
+pub mod Words

@@ -1,0 +1,4 @@
+pub mod Contents
+pub mod Values
+pub mod Rests
+pub mod Week
