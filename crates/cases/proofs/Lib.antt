@@ -1,0 +1,4 @@
+pub mod Rights
+pub mod Documents
+pub mod Stories
+pub mod Slices
