@@ -1,0 +1,5 @@
+pub mod Entries
+pub mod Gathering
+pub mod Marking
+pub mod Reading
+pub mod Splitting
