@@ -1,0 +1,3 @@
+pub mod AtNodes
+pub mod Checks
+pub mod Texts

@@ -1,0 +1,4 @@
+pub mod Completing
+pub mod Firsts
+pub mod Forking
+pub mod Marking
