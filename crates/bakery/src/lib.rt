@@ -1,6 +1,8 @@
 // The smallest example of how to write an engine: the agreement of a bakery, whose weekly sheet holds
 // shifts, corrections and a lock, as a content engine and a value engine written by hand.
 
+#![tactic(auto)]
+
 mod contents;
 mod elements;
 mod made;

@@ -1,6 +1,8 @@
 // Compares the engines on the models of a week and on long models: which words each accepts and how many
 // steps it makes, and, where the word `time` stands on the command line, how many steps in a second.
 
+#![tactic(auto)]
+
 mod samples;
 mod speed;
 

@@ -1,6 +1,8 @@
 // Sets of the numbers from 0 to 63, each held in one word. A place from 64 on lies in no set:
 // it is never found, and adding or removing it changes nothing.
 
+#![tactic(auto)]
+
 ghost use Rattle.std.specs.Prelude.{◌≡◌, ℕ, ◌<◌, ◌≤◌, true, false, ◌&&◌, ◌||◌, MatchOption, ◌≢◌};
 ghost use Rattle.bits.specs.Sets.{has};
 

@@ -1,6 +1,8 @@
 // Concrete documents and histories: what the engines' and the sheet's definitions speak of has instances, and
 // a sheet consults both of its engines.
 
+#![tactic(auto)]
+
 mod calls;
 mod instances;
 mod lists;

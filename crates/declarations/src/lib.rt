@@ -1,5 +1,7 @@
 // Reads element declarations: the one that stands at a place of a text, what is told of it, and the nodes of its model.
 
+#![tactic(auto)]
+
 mod content;
 mod declared;
 mod items;

@@ -1,5 +1,7 @@
 // The derivative engine: each step is worked out from the node table.
 
+#![tactic(auto)]
+
 mod derive;
 mod engine;
 

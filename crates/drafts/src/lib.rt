@@ -1,5 +1,7 @@
 // Drafts: element declarations read into tables, with every question asked of their text.
 
+#![tactic(auto)]
+
 mod ask;
 mod draft;
 mod note;

@@ -1,6 +1,8 @@
 // What an engine means. An engine stands for a language for each number and answers questions about
 // it one letter at a time. Everything above is proved once, over every engine that keeps this meaning.
 
+#![tactic(auto)]
+
 mod alphabet;
 mod engine;
 mod range;

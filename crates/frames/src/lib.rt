@@ -1,6 +1,8 @@
 // One open element, held as a frame: what the two engines answer about it, and what they agree on. Nothing
 // here knows of a sheet or of the elements around the open one.
 
+#![tactic(auto)]
+
 mod agreement;
 mod ask;
 mod frame;

@@ -1,6 +1,8 @@
 // The items of a document, read one by one from its bytes: tags, comments, references and runs of text. Whether the tags
 // fit each other is not asked here.
 
+#![tactic(auto)]
+
 mod counting;
 mod item;
 mod markup;

@@ -1,5 +1,7 @@
 // Runs a sheet into its limits: the sixty-fifth open element and the event past the millionth.
 
+#![tactic(auto)]
+
 mod nest;
 
 use bakery::{NoValues, no_values};

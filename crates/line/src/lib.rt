@@ -1,5 +1,7 @@
 // The one line that a program prints of its verdict, as a value and as the bytes of that value in a lent buffer.
 
+#![tactic(auto)]
+
 mod lines;
 mod put;
 #[cfg(test)]

@@ -1,5 +1,7 @@
 // Matches words by both engines, from tables written out here, and prints what each of them says.
 
+#![tactic(auto)]
+
 use derivative::Derivatives;
 use engine::{ByteRange, ContentAtom, Letter, match_word};
 use models::{Model, Node};

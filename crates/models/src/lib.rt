@@ -1,5 +1,7 @@
 // Content models as tables of nodes, and the one loop that computes something over them.
 
+#![tactic(auto)]
+
 mod algebra;
 mod evaluation;
 mod node;

@@ -1,5 +1,7 @@
 // The position engine: it reads a table of follow sets, made once from the node table.
 
+#![tactic(auto)]
+
 mod rows;
 mod table;
 mod walks;

@@ -1,6 +1,8 @@
 // The small parts of texts that every reader needs: blanks, names, words and comments, and tables of names. A reading
 // stands at a place of the text and answers the place behind what it read; a place may be any, also past the end.
 
+#![tactic(auto)]
+
 mod blanks;
 mod bytes;
 mod comments;

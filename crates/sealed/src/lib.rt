@@ -1,6 +1,8 @@
 // The content engine over tables that were checked: its languages are those of the tables, and it
 // shows the law of contents.
 
+#![tactic(auto)]
+
 mod questions;
 mod sealed;
 mod text;

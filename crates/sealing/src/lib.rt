@@ -1,6 +1,8 @@
 // What is asked of content models before they are sealed: no model is ambiguous, and every element has
 // a valid tree, values left aside.
 
+#![tactic(auto)]
+
 mod ambiguity;
 mod completion;
 mod elements;

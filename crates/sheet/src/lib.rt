@@ -1,5 +1,7 @@
 // The sheet: judges a document event by event over any content engine and any value engine.
 
+#![tactic(auto)]
+
 mod answer;
 mod ask;
 mod call;

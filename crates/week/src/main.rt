@@ -1,6 +1,8 @@
 // Judges one week of a bakery: sends the calls of a clocking hub and of the foreman who mends them to a
 // sheet, and prints what each was answered.
 
+#![tactic(auto)]
+
 mod story;
 
 use bakery::{CORRECTION, HOURS, LOCK, SHEET, SHIFT, agreement, hours_values, week_length};

@@ -1,5 +1,7 @@
 // The worked examples as one statement about the definitions.
 
+#![tactic(auto)]
+
 ghost use Rattle.std.specs.Prelude.{◌≡◌};
 ghost use Rattle.worked.specs.Examples.{Worked};
 

@@ -9,8 +9,8 @@ use Rattle.bits.proofs.without.Goals as goal
 place_below : (c : goal.Then-contains) → c.args.place < 64
 place_below c = member_below 64 c.args.set c.args.place (Fits-lt-pow c.ranges.set) (sym c.if-contains.ensures)
 
-pub overflow-shl-result : goal.overflow-shl-result
-overflow-shl-result c = place_below c
+pub overflow_shl-result : goal.overflow_shl-result
+overflow_shl-result c = place_below c
 
 pub returns-then-contains : goal.returns-then-contains
 returns-then-contains c =
