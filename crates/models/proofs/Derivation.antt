@@ -71,30 +71,30 @@ module _ {A X : Type 0} (reads : ℕ → A → X → Type 0) (x : X) (S : ℕ �
     pub derives_alt : Derives reads x S (alt e f) b (NL ⊎ NR) (EL ⊎ ER) (λ n. FL n ⊎ FR n) (λ n. GL n ⊎ GR n)
     derives_alt = record {
       nullable_is = (
-        elim [ inl h ↦ inl (l.nullable-is.0 h) | inr h ↦ inr (r.nullable_is.0 h) ],
-        elim [ inl h ↦ inl (l.nullable-is.1 h) | inr h ↦ inr (r.nullable_is.1 h) ],
+        elim [ inl h ↦ inl (l.nullable_is.0 h) | inr h ↦ inr (r.nullable_is.0 h) ],
+        elim [ inl h ↦ inl (l.nullable_is.1 h) | inr h ↦ inr (r.nullable_is.1 h) ],
       );
       ends_is = (
         elim [ inl h ↦ inl (l.ends_is.0 h) | inr h ↦ inr (r.ends_is.0 h) ],
         elim [ inl h ↦ inl (l.ends_is.1 h) | inr h ↦ inr (r.ends_is.1 h) ],
       );
       first_is = λ w. (
-        elim [ inl h ↦ inl ((l.first-is w).0 (only_left FL FR (λ n m. (r.first_in n m).0) w h)) | inr h ↦ inr ((r.first_is w).0 (only_right FL FR (λ n k. (l.first-in n k).1) w h)) ],
-        elim [ inl h ↦ inl (rest_mono reads e b (λ n lo hi s. inl s) w ((l.first-is w).1 h)) | inr h ↦ inr (rest_mono reads f (b + atoms e) (λ n lo hi s. inr s) w ((r.first_is w).1 h)) ],
+        elim [ inl h ↦ inl ((l.first_is w).0 (only_left FL FR (λ n m. (r.first_in n m).0) w h)) | inr h ↦ inr ((r.first_is w).0 (only_right FL FR (λ n k. (l.first_in n k).1) w h)) ],
+        elim [ inl h ↦ inl (rest_mono reads e b (λ n lo hi s. inl s) w ((l.first_is w).1 h)) | inr h ↦ inr (rest_mono reads f (b + atoms e) (λ n lo hi s. inr s) w ((r.first_is w).1 h)) ],
       );
       next_is = λ w. (
-        elim [ inl h ↦ inl ((l.next-is w).0 (only_left GL GR (λ n m. (r.next_in n m).0) w h)) | inr h ↦ inr ((r.next_is w).0 (only_right GL GR (λ n k. (l.next-in n k).1) w h)) ],
-        elim [ inl h ↦ inl (rest_mono reads e b (λ n lo hi s. inl s) w ((l.next-is w).1 h)) | inr h ↦ inr (rest_mono reads f (b + atoms e) (λ n lo hi s. inr s) w ((r.next_is w).1 h)) ],
+        elim [ inl h ↦ inl ((l.next_is w).0 (only_left GL GR (λ n m. (r.next_in n m).0) w h)) | inr h ↦ inr ((r.next_is w).0 (only_right GL GR (λ n k. (l.next_in n k).1) w h)) ],
+        elim [ inl h ↦ inl (rest_mono reads e b (λ n lo hi s. inl s) w ((l.next_is w).1 h)) | inr h ↦ inr (rest_mono reads f (b + atoms e) (λ n lo hi s. inr s) w ((r.next_is w).1 h)) ],
       );
-      first_in = λ n. elim [ inl h ↦ let k = l.first-in n h in (omega arith, omega arith) | inr h ↦ let k = r.first_in n h in (omega arith, omega arith) ];
-      next_in = λ n. elim [ inl h ↦ let k = l.next-in n h in (omega arith, omega arith) | inr h ↦ let k = r.next_in n h in (omega arith, omega arith) ];
+      first_in = λ n. elim [ inl h ↦ let k = l.first_in n h in (omega arith, omega arith) | inr h ↦ let k = r.first_in n h in (omega arith, omega arith) ];
+      next_in = λ n. elim [ inl h ↦ let k = l.next_in n h in (omega arith, omega arith) | inr h ↦ let k = r.next_in n h in (omega arith, omega arith) ];
     }
 
     pub derives_seq : Derives reads x S (seq e f) b (NL × NR) ((EL × NR) ⊎ ER) (λ n. FL n ⊎ (NL × FR n)) (λ n. (GL n ⊎ (EL × FR n)) ⊎ GR n)
     derives_seq = record {
       nullable_is = (
-        λ h. then_skip [] (l.nullable-is.0 h.0) (r.nullable_is.0 h.1),
-        λ h. let k = then_nil h in (l.nullable-is.1 k.0, r.nullable_is.1 k.1),
+        λ h. then_skip [] (l.nullable_is.0 h.0) (r.nullable_is.0 h.1),
+        λ h. let k = then_nil h in (l.nullable_is.1 k.0, r.nullable_is.1 k.1),
       );
       ends_is = (
         elim [ inl h ↦ inl (then_skip [] (l.ends_is.0 h.0) (r.nullable_is.0 h.1)) | inr h ↦ inr (r.ends_is.0 h) ],
@@ -102,24 +102,24 @@ module _ {A X : Type 0} (reads : ℕ → A → X → Type 0) (x : X) (S : ℕ �
       );
       first_is = λ w. (
         elim [
-          | inl h ↦ then_first x w (then_map (λ u k. (l.first-is u).0 (only_left FL (λ n. NL × FR n) (λ n m. (r.first_in n m.1).0) u k)) (λ v m. m) w h)
+          | inl h ↦ then_first x w (then_map (λ u k. (l.first_is u).0 (only_left FL (λ n. NL × FR n) (λ n m. (r.first_in n m.1).0) u k)) (λ v m. m) w h)
           | inr h ↦
-              let k = rest_guard reads f (b + atoms e) NL FR w (only_right FL (λ n. NL × FR n) (λ n k. (l.first-in n k).1) w h) in
-              then_skip (x ∷ w) (l.nullable-is.0 k.0) ((r.first_is w).0 k.1)
+              let k = rest_guard reads f (b + atoms e) NL FR w (only_right FL (λ n. NL × FR n) (λ n k. (l.first_in n k).1) w h) in
+              then_skip (x ∷ w) (l.nullable_is.0 k.0) ((r.first_is w).0 k.1)
         ],
         λ h. elim (then_cons x w h) [
-          | inl k ↦ let some = l.nullable-is.1 k.0 in inr (rest_mono reads f (b + atoms e) (λ n lo hi s. inr (some, s)) w ((r.first_is w).1 k.1))
-          | inr k ↦ inl (then_map (λ u m. rest_mono reads e b (λ n lo hi s. inl s) u ((l.first-is u).1 m)) (λ v m. m) w k)
+          | inl k ↦ let some = l.nullable_is.1 k.0 in inr (rest_mono reads f (b + atoms e) (λ n lo hi s. inr (some, s)) w ((r.first_is w).1 k.1))
+          | inr k ↦ inl (then_map (λ u m. rest_mono reads e b (λ n lo hi s. inl s) u ((l.first_is u).1 m)) (λ v m. m) w k)
         ],
       );
       next_is = λ w. (
         elim [
           | inl h ↦
-              inl (then_first x w (then_map (λ u k. (l.next-is u).0 (only_left GL (λ n. EL × FR n) (λ n m. (r.first_in n m.1).0) u (only_left (λ n. GL n ⊎ (EL × FR n)) GR (λ n m. (r.next_in n m).0) u k))) (λ v m. m) w h))
+              inl (then_first x w (then_map (λ u k. (l.next_is u).0 (only_left GL (λ n. EL × FR n) (λ n m. (r.first_in n m.1).0) u (only_left (λ n. GL n ⊎ (EL × FR n)) GR (λ n m. (r.next_in n m).0) u k))) (λ v m. m) w h))
           | inr h ↦
               elim (rest_or reads f (b + atoms e) (λ n. GL n ⊎ (EL × FR n)) GR w h) [
                 | inl k ↦
-                    let m = rest_guard reads f (b + atoms e) EL FR w (only_right GL (λ n. EL × FR n) (λ n k. (l.next-in n k).1) w k) in
+                    let m = rest_guard reads f (b + atoms e) EL FR w (only_right GL (λ n. EL × FR n) (λ n k. (l.next_in n k).1) w k) in
                     inl (then_skip (x ∷ w) (l.ends_is.0 m.0) ((r.first_is w).0 m.1))
                 | inr k ↦ inr ((r.next_is w).0 k)
               ]
@@ -128,18 +128,18 @@ module _ {A X : Type 0} (reads : ℕ → A → X → Type 0) (x : X) (S : ℕ �
           | inl h ↦
               elim (then_cons x w h) [
                 | inl k ↦ let some = l.ends_is.1 k.0 in inr (rest_mono reads f (b + atoms e) (λ n lo hi s. inl (inr (some, s))) w ((r.first_is w).1 k.1))
-                | inr k ↦ inl (then_map (λ u m. rest_mono reads e b (λ n lo hi s. inl (inl s)) u ((l.next-is u).1 m)) (λ v m. m) w k)
+                | inr k ↦ inl (then_map (λ u m. rest_mono reads e b (λ n lo hi s. inl (inl s)) u ((l.next_is u).1 m)) (λ v m. m) w k)
               ]
           | inr h ↦ inr (rest_mono reads f (b + atoms e) (λ n lo hi s. inr s) w ((r.next_is w).1 h))
         ],
       );
       first_in = λ n. elim [
-        | inl h ↦ let k = l.first-in n h in (omega arith, omega arith)
+        | inl h ↦ let k = l.first_in n h in (omega arith, omega arith)
         | inr h ↦ let k = r.first_in n h.1 in (omega arith, omega arith)
       ];
       next_in = λ n. elim [
         | inl h ↦ elim h [
-          | inl k ↦ let m = l.next-in n k in (omega arith, omega arith)
+          | inl k ↦ let m = l.next_in n k in (omega arith, omega arith)
           | inr k ↦ let m = r.first_in n k.1 in (omega arith, omega arith)
         ]
         | inr h ↦ let k = r.next_in n h in (omega arith, omega arith)

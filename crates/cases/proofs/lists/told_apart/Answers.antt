@@ -6,10 +6,10 @@ use Rattle.cases.proofs.lists.told_apart.Goals as goal
 
 pub returns : goal.returns
 returns c = record {
-  valued = c.play-known.ensures (sheet_calls comma_events) comma_offends
+  valued = c.play_known.ensures (sheet_calls comma_events) comma_offends
       (λ i. begin 1 ∷ c.start.ensures i ∷ c.start-2.ensures i ∷ c.start-3.ensures i ∷ c.text.ensures i ∷ c.end.ensures i ∷ c.end-2.ensures i ∷ c.start-4.ensures i ∷ c.end-3.ensures i ∷ c.end-4.ensures i ∷ finish ∷ [])
       (stories.told_apart).offends;
-  free = c.play-known-2.ensures (sheet_calls comma_events) comma_passes
+  free = c.play_known-2.ensures (sheet_calls comma_events) comma_passes
       (λ i. begin 1 ∷ c.start.ensures i ∷ c.start-2.ensures i ∷ c.start-3.ensures i ∷ c.text.ensures i ∷ c.end.ensures i ∷ c.end-2.ensures i ∷ c.start-4.ensures i ∷ c.end-3.ensures i ∷ c.end-4.ensures i ∷ finish ∷ [])
       (stories.told_apart).passes;
   law = stories.told_apart;

@@ -3,15 +3,15 @@ use Rattle.declarations.specs.Answers.{numbered_names}
 use Rattle.declarations.proofs.Wholes.{worded, content_any, content_bracketed}
 use Rattle.declarations.proofs.content.any_or_bracketed.Goals as goal
 
-pub write-any-requires : goal.write-any-requires
-write-any-requires c =
+pub write_any-requires : goal.write_any-requires
+write_any-requires c =
     let w = worded (codes "ANY") c.args.text.now c.args.at c.in-Some.end (c.in-Some.ensures.answer (lit< tt)) in
     record { room = omega (arith, w.3, w.2.inside) }
 
 pub returns-in-Some : goal.returns-in-Some
 returns-in-Some c =
     let text = c.args.text.now in
-    content_any text (numbered_names text c.args.entries.now) c.args.at c.args.nodes.now c.args.used c.in-Some.end c.write-any.result c.write-any.new.nodes c.count.result (c.in-Some.ensures.answer (lit< tt)) c.write-any.ensures.body (c.count.ensures text) c.write-any.ensures.written
+    content_any text (numbered_names text c.args.entries.now) c.args.at c.args.nodes.now c.args.used c.in-Some.end c.write_any.result c.write_any.new.nodes c.count.result (c.in-Some.ensures.answer (lit< tt)) c.write_any.ensures.body (c.count.ensures text) c.write_any.ensures.written
 
 pub returns-in-None : goal.returns-in-None
 returns-in-None c =

@@ -10,26 +10,26 @@ returns-then-at-text c =
     let text = c.args.text.now in
     piece_end text (numbered_names text c.args.entries.now) c.args.at c.if-at-text.true
 
-pub returns-then-is-blank : goal.returns-then-is-blank
-returns-then-is-blank c =
+pub returns-then-is_blank : goal.returns-then-is_blank
+returns-then-is_blank c =
     let text = c.args.text.now in
-    let blank = first_at is_blank text c.args.at c.if-at-text.false ∙ sym c.is-blank.ensures ∙ c.if-is-blank.true in
-    piece_blanks text (numbered_names text c.args.entries.now) c.args.at c.skip-blanks-end.result blank c.skip-blanks-end.ensures.behind c.skip-blanks-end.ensures.forward (c.skip-blanks-end.ensures.inside (omega arith))
+    let blank = first_at is_blank text c.args.at c.if-at-text.false ∙ sym c.is_blank.ensures ∙ c.if-is_blank.true in
+    piece_blanks text (numbered_names text c.args.entries.now) c.args.at c.skip_blanks-end.result blank c.skip_blanks-end.ensures.behind c.skip_blanks-end.ensures.forward (c.skip_blanks-end.ensures.inside (omega arith))
 
 pub returns-in-Some : goal.returns-in-Some
 returns-in-Some c =
     let text = c.args.text.now in
-    let black = first_at is_blank text c.args.at c.if-at-text.false ∙ sym c.is-blank.ensures ∙ c.if-is-blank.false in
+    let black = first_at is_blank text c.args.at c.if-at-text.false ∙ sym c.is_blank.ensures ∙ c.if-is_blank.false in
     piece_comment text (numbered_names text c.args.entries.now) c.args.at c.if-at-text.false black c.in-Some.end c.in-Some.ensures
 
-pub returns-in-Some-declaration-at : goal.returns-in-Some-declaration-at
-returns-in-Some-declaration-at c =
+pub returns-in-Some-declaration_at : goal.returns-in-Some-declaration_at
+returns-in-Some-declaration_at c =
     let text = c.args.text.now in
-    let black = first_at is_blank text c.args.at c.if-at-text.false ∙ sym c.is-blank.ensures ∙ c.if-is-blank.false in
-    piece_declaration text (numbered_names text c.args.entries.now) c.args.at c.if-at-text.false black c.in-Some-declaration-at.told c.in-default.ensures c.in-Some-declaration-at.ensures
+    let black = first_at is_blank text c.args.at c.if-at-text.false ∙ sym c.is_blank.ensures ∙ c.if-is_blank.false in
+    piece_declaration text (numbered_names text c.args.entries.now) c.args.at c.if-at-text.false black c.in-Some-declaration_at.told c.in_default.ensures c.in-Some-declaration_at.ensures
 
 pub returns-in-None : goal.returns-in-None
 returns-in-None c =
     let text = c.args.text.now in
-    let black = first_at is_blank text c.args.at c.if-at-text.false ∙ sym c.is-blank.ensures ∙ c.if-is-blank.false in
-    piece_unread text (numbered_names text c.args.entries.now) c.args.at c.if-at-text.false black c.in-default.ensures c.in-None.ensures
+    let black = first_at is_blank text c.args.at c.if-at-text.false ∙ sym c.is_blank.ensures ∙ c.if-is_blank.false in
+    piece_unread text (numbered_names text c.args.entries.now) c.args.at c.if-at-text.false black c.in_default.ensures c.in-None.ensures

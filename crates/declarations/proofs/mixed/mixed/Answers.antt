@@ -26,53 +26,53 @@ loop-nodes-init c =
 
 pub starred-requires : goal.starred-requires
 starred-requires c =
-    let h = inside 41 c.args.text.now c.skip-blanks-here.result (sym c.if-byte-is.ensures) in
-    record { room = omega (arith, c.loop-nodes.invariant.1, c.loop-nodes.invariant.2, c.skip-blanks-here.ensures.forward) }
+    let h = inside 41 c.args.text.now c.skip_blanks-here.result (sym c.if-byte_is.ensures) in
+    record { room = omega (arith, c.loop-nodes.invariant.1, c.loop-nodes.invariant.2, c.skip_blanks-here.ensures.forward) }
 
-pub returns-then-byte-is : goal.returns-then-byte-is
-returns-then-byte-is c =
+pub returns-then-byte_is : goal.returns-then-byte_is
+returns-then-byte_is c =
     let text = c.args.text.now in
     let names = numbered_names text c.args.entries.now in
-    let here = c.skip-blanks-here.result in
-    let closed = sym c.if-byte-is.ensures in
+    let here = c.skip_blanks-here.result in
+    let closed = sym c.if-byte_is.ensures in
     let within = inside 41 text here closed in
     let g = c.loop-nodes.invariant.0 c.args.nodes.now c.put.ensures in
     let whole = starred (shut (run mixed_name [] (drop c.args.word text))) in
-    let same = mixed_over text names c.args.at whole c.args.nodes.now c.args.used c.loop-nodes.part c.loop-nodes.seen c.loop-nodes.nodes g here c.skip-blanks-here.ensures.behind closed within in
-    let far : c.loop-nodes.part.end < here + 1 = omega (arith, c.skip-blanks-here.ensures.forward) in
-    content_same text names c.args.at c.args.nodes.now c.args.used whole (starred (got g.so-far (drop (here + 1) text))) c.starred.result c.starred.new.nodes same
-    (c.starred.ensures names c.args.at g.so-far g.left c.args.nodes.now g.is far (omega arith) (λ known. g.seen_is.differ (sym g.is.all_known ∙ known)))
+    let same = mixed_over text names c.args.at whole c.args.nodes.now c.args.used c.loop-nodes.part c.loop-nodes.seen c.loop-nodes.nodes g here c.skip_blanks-here.ensures.behind closed within in
+    let far : c.loop-nodes.part.end < here + 1 = omega (arith, c.skip_blanks-here.ensures.forward) in
+    content_same text names c.args.at c.args.nodes.now c.args.used whole (starred (got g.so_far (drop (here + 1) text))) c.starred.result c.starred.new.nodes same
+    (c.starred.ensures names c.args.at g.so_far g.left c.args.nodes.now g.is far (omega arith) (λ known. g.seen_is.differ (sym g.is.all_known ∙ known)))
 
-pub returns-then-not-byte-is : goal.returns-then-not-byte-is
-returns-then-not-byte-is c =
+pub returns-then-not-byte_is : goal.returns-then-not-byte_is
+returns-then-not-byte_is c =
     let text = c.args.text.now in
     let names = numbered_names text c.args.entries.now in
     let g = c.loop-nodes.invariant.0 c.args.nodes.now c.put.ensures in
-    mixed_stuck text names c.args.at (starred (shut (run mixed_name [] (drop c.args.word text)))) c.args.nodes.now c.args.used c.loop-nodes.part c.loop-nodes.seen c.loop-nodes.nodes g c.skip-blanks-here.result c.skip-blanks-here.ensures.behind (sym c.if-byte-is.ensures) (sym c.if-not-byte-is.ensures)
+    mixed_stuck text names c.args.at (starred (shut (run mixed_name [] (drop c.args.word text)))) c.args.nodes.now c.args.used c.loop-nodes.part c.loop-nodes.seen c.loop-nodes.nodes g c.skip_blanks-here.result c.skip_blanks-here.ensures.behind (sym c.if-byte_is.ensures) (sym c.if-not-byte_is.ensures)
 
-pub returns-in-err-name : goal.returns-in-err-name
-returns-in-err-name c =
+pub returns-in_err-name : goal.returns-in_err-name
+returns-in_err-name c =
     let text = c.args.text.now in
     let names = numbered_names text c.args.entries.now in
-    let here = c.skip-blanks-here.result in
-    let signed = sym c.if-not-byte-is.ensures in
+    let here = c.skip_blanks-here.result in
+    let signed = sym c.if-not-byte_is.ensures in
     let whole = starred (shut (run mixed_name [] (drop c.args.word text))) in
     let g = c.loop-nodes.invariant.0 c.args.nodes.now c.put.ensures in
-    let none = mixed_no_name text names c.args.at whole c.args.nodes.now c.args.used c.loop-nodes.part c.loop-nodes.seen c.loop-nodes.nodes g here c.skip-blanks-here.ensures.behind c.skip-blanks-next.result (inside 124 text here signed) (sym c.if-byte-is.ensures) signed c.skip-blanks-next.ensures.behind c.in-err-name.ensures in
+    let none = mixed_no_name text names c.args.at whole c.args.nodes.now c.args.used c.loop-nodes.part c.loop-nodes.seen c.loop-nodes.nodes g here c.skip_blanks-here.ensures.behind c.skip_blanks-next.result (inside 124 text here signed) (sym c.if-byte_is.ensures) signed c.skip_blanks-next.ensures.behind c.in_err-name.ensures in
     subst (λ r. ContentAt text names c.args.at whole c.args.nodes.now c.args.used r c.loop-nodes.nodes) (sym c.from-residual.ensures) none
 
 pub loop-nodes-preserved : goal.loop-nodes-preserved
 loop-nodes-preserved c =
     let text = c.args.text.now in
     let names = numbered_names text c.args.entries.now in
-    let here = c.skip-blanks-here.result in
-    let signed = sym c.if-not-byte-is.ensures in
+    let here = c.skip_blanks-here.result in
+    let signed = sym c.if-not-byte_is.ensures in
     let whole = starred (shut (run mixed_name [] (drop c.args.word text))) in
-    let found = c.in-ok-name.ensures in
+    let found = c.in_ok-name.ensures in
     let on : (table : Nodes) → c.put.new.table ≡ set table c.args.used (node.Atom Text) → Mixes text names c.args.at whole table c.args.used c.joined-part.result c.see-seen.result c.joined-part.new.nodes =
     λ table put.
     let g = c.loop-nodes.invariant.0 table put in
-    mixed_more text names c.args.at whole table c.args.used c.loop-nodes.part c.loop-nodes.seen c.loop-nodes.nodes g here c.skip-blanks-here.ensures.behind c.skip-blanks-next.result (inside 124 text here signed) (sym c.if-byte-is.ensures) signed c.skip-blanks-next.ensures.behind c.in-ok-name.name c.skip-blanks-here.ensures.forward c.skip-blanks-next.ensures.forward found c.write-leaf-more.result c.write-leaf-more.new.nodes c.write-leaf-more.ensures.part c.write-leaf-more.ensures.written c.joined-part.result c.joined-part.new.nodes c.joined-part.ensures.part c.joined-part.ensures.written c.see-seen.result (c.see-seen.ensures names g.so-far found.0 (few_names text c.args.entries.now) found.5 g.seen_is) in
+    mixed_more text names c.args.at whole table c.args.used c.loop-nodes.part c.loop-nodes.seen c.loop-nodes.nodes g here c.skip_blanks-here.ensures.behind c.skip_blanks-next.result (inside 124 text here signed) (sym c.if-byte_is.ensures) signed c.skip_blanks-next.ensures.behind c.in_ok-name.name c.skip_blanks-here.ensures.forward c.skip_blanks-next.ensures.forward found c.write_leaf-more.result c.write_leaf-more.new.nodes c.write_leaf-more.ensures.part c.write_leaf-more.ensures.written c.joined-part.result c.joined-part.new.nodes c.joined-part.ensures.part c.joined-part.ensures.written c.see-seen.result (c.see-seen.ensures names g.so_far found.0 (few_names text c.args.entries.now) found.5 g.seen_is) in
     let h = on c.args.nodes.now c.put.ensures in
     let facts = part_facts text names c.args.at (or_names names (atom Text) h.so_far) h.so_far h.left c.args.nodes.now c.args.used c.joined-part.result c.joined-part.new.nodes h.is in
     (on, facts.0, facts.1, facts.2)

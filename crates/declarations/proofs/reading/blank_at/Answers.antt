@@ -5,7 +5,7 @@ use Rattle.declarations.proofs.reading.blank_at.Goals as goal
 
 pub returns-then-at-text : goal.returns-then-at-text
 returns-then-at-text c =
-    c.is-blank.ensures ∙ sym (first_at is_blank c.args.text.now c.args.at c.if-at-text.true)
+    c.is_blank.ensures ∙ sym (first_at is_blank c.args.text.now c.args.at c.if-at-text.true)
 
 pub returns-else-at-text : goal.returns-else-at-text
 returns-else-at-text c =

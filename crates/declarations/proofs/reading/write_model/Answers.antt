@@ -13,7 +13,7 @@ returns-in-Some c =
     let there = c.in-Some.ensures in
     model_some text (numbered_names text c.args.entries.now) c.args.at c.args.nodes.now c.args.used c.declaration.result c.declaration.new.nodes there.0 there.1 there.2 c.declaration.ensures
 
-pub returns-in-default : goal.returns-in-default
-returns-in-default c =
+pub returns-in_default : goal.returns-in_default
+returns-in_default c =
     let text = c.args.text.now in
-    model_none text (numbered_names text c.args.entries.now) c.args.at c.args.nodes.now c.args.used c.in-default.ensures
+    model_none text (numbered_names text c.args.entries.now) c.args.at c.args.nodes.now c.args.used c.in_default.ensures

@@ -13,13 +13,13 @@ pub loop-entry-init : goal.loop-entry-init
 unfolding first_no
 loop-entry-init c = λ found list. (refl, omega arith)
 
-pub returns-in-default : goal.returns-in-default
-returns-in-default c = λ found list.
+pub returns-in_default : goal.returns-in_default
+returns-in_default c = λ found list.
     let text = c.args.text.now in
     let entries = c.args.entries.now in
     let k = c.loop-entry.entry-index in
     let inside : k < length entries = omega arith in
-    absurd (not_none text found k (get_or entries k zero_entry) (numbered_names text entries) (listed_at text entries found k list inside) c.in-default.ensures)
+    absurd (not_none text found k (get_or entries k zero_entry) (numbered_names text entries) (listed_at text entries found k list inside) c.in_default.ensures)
 
 pub returns-then-told-left : goal.returns-then-told-left
 returns-then-told-left c = λ found list.

@@ -25,11 +25,11 @@ pub loop-end-preserved : goal.loop-end-preserved
 loop-end-preserved c =
     let text = c.args.text.now in
     let told = c.in-Declaration.ensures in
-    let one = c.note-one-noted.ensures in
+    let one = c.note_one-noted.ensures in
     let inv = c.loop-end.invariant in
     let count = one.counted (omega (arith, inv.noting.counted, inv.small, inv.inside, told.3.longer, told.3.stands.inside)) in
-    subst (NotedAt text c.args.room c.args.entries.now c.in-Declaration.told.end c.note-one-noted.result) (sym one.written)
-    (noted_declared text c.args.room c.args.entries.now c.loop-end.at c.loop-end.noted c.loop-end.entries inv [] c.in-Declaration.told told.0 told.1 told.3 told.4 c.note-one-noted.result c.entry-of.result count (λ e. one.here e ∙ ap (λ (x : Entry). x.place) c.entry-of.ensures) one.later c.entry-of.ensures told.2)
+    subst (NotedAt text c.args.room c.args.entries.now c.in-Declaration.told.end c.note_one-noted.result) (sym one.written)
+    (noted_declared text c.args.room c.args.entries.now c.loop-end.at c.loop-end.noted c.loop-end.entries inv [] c.in-Declaration.told told.0 told.1 told.3 told.4 c.note_one-noted.result c.entry_of.result count (λ e. one.here e ∙ ap (λ (x : Entry). x.place) c.entry_of.ensures) one.later c.entry_of.ensures told.2)
 
 pub returns-in-End : goal.returns-in-End
 returns-in-End c =

@@ -21,45 +21,45 @@ from_16 room found = (16, names_declared room (declared_names found)) ∷ from_1
 abbrev from_15 : Room → List Placed → List (ℕ × Asked)
 from_15 room found = (15, new_name room (declared_names found)) ∷ from_16 room found
 
-pub returns-in-err-refuse-at : goal.returns-in-err-refuse-at
-returns-in-err-refuse-at c = λ found records listed.
+pub returns-in_err-refuse_at : goal.returns-in_err-refuse_at
+returns-in_err-refuse_at c = λ found records listed.
     let room : Room = record { nodes = c.args.nodes; records = records } in
     let p = err_from_is_err_and c.from-residual.result c.from-residual.ensures.1 in
     subst (Tells (ask_all (later_questions room (declared_names found)) found)) (sym (p.1 ∙ ap Err p.2))
-    (told_no question.Atoms (few_atoms room (declared_names found)) (from_15 room found) found c.first-no.result (c.first-no.ensures found listed tt) c.in-err-refuse-at.field-0.0 (sym c.refuse-at.ensures ∙ c.in-err-refuse-at.was))
+    (told_no question.Atoms (few_atoms room (declared_names found)) (from_15 room found) found c.first_no.result (c.first_no.ensures found listed tt) c.in_err-refuse_at.field-0.0 (sym c.refuse_at.ensures ∙ c.in_err-refuse_at.was))
 
-pub returns-in-err-refuse-at-2 : goal.returns-in-err-refuse-at-2
-returns-in-err-refuse-at-2 c = λ found records listed.
+pub returns-in_err-refuse_at-2 : goal.returns-in_err-refuse_at-2
+returns-in_err-refuse_at-2 c = λ found records listed.
     let room : Room = record { nodes = c.args.nodes; records = records } in
-    let p = err_from_is_err_and c.from-residual-in-err-refuse-at-2.result c.from-residual-in-err-refuse-at-2.ensures.1 in
+    let p = err_from_is_err_and c.from-residual-in_err-refuse_at-2.result c.from-residual-in_err-refuse_at-2.ensures.1 in
     subst (Tells (ask_all (later_questions room (declared_names found)) found)) (sym (p.1 ∙ ap Err p.2))
-    (told_yes question.Atoms (few_atoms room (declared_names found)) (from_15 room found) found c.first-no.result (c.first-no.ensures found listed tt) tt (sym c.refuse-at.ensures ∙ c.in-ok-refuse-at.was) (Err c.in-err-refuse-at-2.field-0.0)
-    (told_no question.NewName (new_name room (declared_names found)) (from_16 room found) found c.first-no-2.result (c.first-no-2.ensures found listed tt) c.in-err-refuse-at-2.field-0.0 (sym c.refuse-at-2.ensures ∙ c.in-err-refuse-at-2.was)))
+    (told_yes question.Atoms (few_atoms room (declared_names found)) (from_15 room found) found c.first_no.result (c.first_no.ensures found listed tt) tt (sym c.refuse_at.ensures ∙ c.in_ok-refuse_at.was) (Err c.in_err-refuse_at-2.field-0.0)
+    (told_no question.NewName (new_name room (declared_names found)) (from_16 room found) found c.first_no-2.result (c.first_no-2.ensures found listed tt) c.in_err-refuse_at-2.field-0.0 (sym c.refuse_at-2.ensures ∙ c.in_err-refuse_at-2.was)))
 
-pub returns-in-err-refuse-at-3 : goal.returns-in-err-refuse-at-3
-returns-in-err-refuse-at-3 c = λ found records listed.
+pub returns-in_err-refuse_at-3 : goal.returns-in_err-refuse_at-3
+returns-in_err-refuse_at-3 c = λ found records listed.
     let room : Room = record { nodes = c.args.nodes; records = records } in
-    let p = err_from_is_err_and c.from-residual-in-err-refuse-at-3.result c.from-residual-in-err-refuse-at-3.ensures.1 in
+    let p = err_from_is_err_and c.from-residual-in_err-refuse_at-3.result c.from-residual-in_err-refuse_at-3.ensures.1 in
     subst (Tells (ask_all (later_questions room (declared_names found)) found)) (sym (p.1 ∙ ap Err p.2))
-    (told_yes question.Atoms (few_atoms room (declared_names found)) (from_15 room found) found c.first-no.result (c.first-no.ensures found listed tt) tt (sym c.refuse-at.ensures ∙ c.in-ok-refuse-at.was) (Err c.in-err-refuse-at-3.field-0.0)
-    (told_yes question.NewName (new_name room (declared_names found)) (from_16 room found) found c.first-no-2.result (c.first-no-2.ensures found listed tt) tt (sym c.refuse-at-2.ensures ∙ c.in-ok-refuse-at-2.was) (Err c.in-err-refuse-at-3.field-0.0)
-    (told_no question.Declared (names_declared room (declared_names found)) (from_17 room found) found c.first-no-3.result (c.first-no-3.ensures found listed tt) c.in-err-refuse-at-3.field-0.0 (sym c.refuse-at-3.ensures ∙ c.in-err-refuse-at-3.was))))
+    (told_yes question.Atoms (few_atoms room (declared_names found)) (from_15 room found) found c.first_no.result (c.first_no.ensures found listed tt) tt (sym c.refuse_at.ensures ∙ c.in_ok-refuse_at.was) (Err c.in_err-refuse_at-3.field-0.0)
+    (told_yes question.NewName (new_name room (declared_names found)) (from_16 room found) found c.first_no-2.result (c.first_no-2.ensures found listed tt) tt (sym c.refuse_at-2.ensures ∙ c.in_ok-refuse_at-2.was) (Err c.in_err-refuse_at-3.field-0.0)
+    (told_no question.Declared (names_declared room (declared_names found)) (from_17 room found) found c.first_no-3.result (c.first_no-3.ensures found listed tt) c.in_err-refuse_at-3.field-0.0 (sym c.refuse_at-3.ensures ∙ c.in_err-refuse_at-3.was))))
 
-pub returns-in-err-refuse-at-4 : goal.returns-in-err-refuse-at-4
-returns-in-err-refuse-at-4 c = λ found records listed.
+pub returns-in_err-refuse_at-4 : goal.returns-in_err-refuse_at-4
+returns-in_err-refuse_at-4 c = λ found records listed.
     let room : Room = record { nodes = c.args.nodes; records = records } in
-    let p = err_from_is_err_and c.from-residual-in-err-refuse-at-4.result c.from-residual-in-err-refuse-at-4.ensures.1 in
+    let p = err_from_is_err_and c.from-residual-in_err-refuse_at-4.result c.from-residual-in_err-refuse_at-4.ensures.1 in
     subst (Tells (ask_all (later_questions room (declared_names found)) found)) (sym (p.1 ∙ ap Err p.2))
-    (told_yes question.Atoms (few_atoms room (declared_names found)) (from_15 room found) found c.first-no.result (c.first-no.ensures found listed tt) tt (sym c.refuse-at.ensures ∙ c.in-ok-refuse-at.was) (Err c.in-err-refuse-at-4.field-0.0)
-    (told_yes question.NewName (new_name room (declared_names found)) (from_16 room found) found c.first-no-2.result (c.first-no-2.ensures found listed tt) tt (sym c.refuse-at-2.ensures ∙ c.in-ok-refuse-at-2.was) (Err c.in-err-refuse-at-4.field-0.0)
-    (told_yes question.Declared (names_declared room (declared_names found)) (from_17 room found) found c.first-no-3.result (c.first-no-3.ensures found listed tt) tt (sym c.refuse-at-3.ensures ∙ c.in-ok-refuse-at-3.was) (Err c.in-err-refuse-at-4.field-0.0)
-    (told_no question.Once (names_once room (declared_names found)) (from_18 room found) found c.first-no-4.result (c.first-no-4.ensures found listed (yes_none question.Declared (names_declared room (declared_names found)) (from_17 room found) found c.first-no-3.result (c.first-no-3.ensures found listed tt) tt (sym c.refuse-at-3.ensures ∙ c.in-ok-refuse-at-3.was))) c.in-err-refuse-at-4.field-0.0 (sym c.refuse-at-4.ensures ∙ c.in-err-refuse-at-4.was)))))
+    (told_yes question.Atoms (few_atoms room (declared_names found)) (from_15 room found) found c.first_no.result (c.first_no.ensures found listed tt) tt (sym c.refuse_at.ensures ∙ c.in_ok-refuse_at.was) (Err c.in_err-refuse_at-4.field-0.0)
+    (told_yes question.NewName (new_name room (declared_names found)) (from_16 room found) found c.first_no-2.result (c.first_no-2.ensures found listed tt) tt (sym c.refuse_at-2.ensures ∙ c.in_ok-refuse_at-2.was) (Err c.in_err-refuse_at-4.field-0.0)
+    (told_yes question.Declared (names_declared room (declared_names found)) (from_17 room found) found c.first_no-3.result (c.first_no-3.ensures found listed tt) tt (sym c.refuse_at-3.ensures ∙ c.in_ok-refuse_at-3.was) (Err c.in_err-refuse_at-4.field-0.0)
+    (told_no question.Once (names_once room (declared_names found)) (from_18 room found) found c.first_no-4.result (c.first_no-4.ensures found listed (yes_none question.Declared (names_declared room (declared_names found)) (from_17 room found) found c.first_no-3.result (c.first_no-3.ensures found listed tt) tt (sym c.refuse_at-3.ensures ∙ c.in_ok-refuse_at-3.was))) c.in_err-refuse_at-4.field-0.0 (sym c.refuse_at-4.ensures ∙ c.in_err-refuse_at-4.was)))))
 
 pub returns : goal.returns
 returns c = λ found records listed.
     let room : Room = record { nodes = c.args.nodes; records = records } in
-    told_yes question.Atoms (few_atoms room (declared_names found)) (from_15 room found) found c.first-no.result (c.first-no.ensures found listed tt) tt (sym c.refuse-at.ensures ∙ c.in-ok-refuse-at.was) c.refuse-at-5.result
-    (told_yes question.NewName (new_name room (declared_names found)) (from_16 room found) found c.first-no-2.result (c.first-no-2.ensures found listed tt) tt (sym c.refuse-at-2.ensures ∙ c.in-ok-refuse-at-2.was) c.refuse-at-5.result
-    (told_yes question.Declared (names_declared room (declared_names found)) (from_17 room found) found c.first-no-3.result (c.first-no-3.ensures found listed tt) tt (sym c.refuse-at-3.ensures ∙ c.in-ok-refuse-at-3.was) c.refuse-at-5.result
-    (told_yes question.Once (names_once room (declared_names found)) (from_18 room found) found c.first-no-4.result (c.first-no-4.ensures found listed (yes_none question.Declared (names_declared room (declared_names found)) (from_17 room found) found c.first-no-3.result (c.first-no-3.ensures found listed tt) tt (sym c.refuse-at-3.ensures ∙ c.in-ok-refuse-at-3.was))) tt (sym c.refuse-at-4.ensures ∙ c.in-ok-refuse-at-4.was) c.refuse-at-5.result
-    (last_told room found c.first-overfull.result c.refuse-at-5.result c.min.result (omega arith) (c.first-overfull.ensures found listed) c.refuse-at-5.ensures))))
+    told_yes question.Atoms (few_atoms room (declared_names found)) (from_15 room found) found c.first_no.result (c.first_no.ensures found listed tt) tt (sym c.refuse_at.ensures ∙ c.in_ok-refuse_at.was) c.refuse_at-5.result
+    (told_yes question.NewName (new_name room (declared_names found)) (from_16 room found) found c.first_no-2.result (c.first_no-2.ensures found listed tt) tt (sym c.refuse_at-2.ensures ∙ c.in_ok-refuse_at-2.was) c.refuse_at-5.result
+    (told_yes question.Declared (names_declared room (declared_names found)) (from_17 room found) found c.first_no-3.result (c.first_no-3.ensures found listed tt) tt (sym c.refuse_at-3.ensures ∙ c.in_ok-refuse_at-3.was) c.refuse_at-5.result
+    (told_yes question.Once (names_once room (declared_names found)) (from_18 room found) found c.first_no-4.result (c.first_no-4.ensures found listed (yes_none question.Declared (names_declared room (declared_names found)) (from_17 room found) found c.first_no-3.result (c.first_no-3.ensures found listed tt) tt (sym c.refuse_at-3.ensures ∙ c.in_ok-refuse_at-3.was))) tt (sym c.refuse_at-4.ensures ∙ c.in_ok-refuse_at-4.was) c.refuse_at-5.result
+    (last_told room found c.first_overfull.result c.refuse_at-5.result c.min.result (omega arith) (c.first_overfull.ensures found listed) c.refuse_at-5.ensures))))

@@ -15,16 +15,16 @@ decreases-marked l = 3 * l.left + 1
 abbrev pub decreases-members : goal.decreases-members
 decreases-members l = 3 * l.left + 2
 
-abbrev pub decreases-more-members : goal.decreases-more-members
-decreases-more-members l = 3 * l.left + 1
+abbrev pub decreases-more_members : goal.decreases-more_members
+decreases-more_members l = 3 * l.left + 1
 
 -- Whatever the first two members were read as, the list goes on.
-abbrev pub invariant-more-members-loop-joint : goal.invariant-more-members-loop-joint
-invariant-more-members-loop-joint l =
+abbrev pub invariant-more_members-loop-joint : goal.invariant-more_members-loop-joint
+invariant-more_members-loop-joint l =
     ((at : ℕ) (e : Exp ByteRange) (rest : List ℕ) (table : Nodes) → PartIs l.text at e rest table l.used l.initial.part l.initial.nodes → Going l.text at l.left l.joint (read_more l.left (joint_of l.joint) e rest) table l.used l.part l.nodes)
     × (l.used + l.part.nodes + (length l.text - l.part.end) < 2 ^ 64)
     × (l.part.end ≤ length l.text)
     × (l.part.atoms ≤ l.part.nodes)
 
-abbrev pub decreases-more-members-loop-joint : goal.decreases-more-members-loop-joint
-decreases-more-members-loop-joint l = length l.text - l.part.end
+abbrev pub decreases-more_members-loop-joint : goal.decreases-more_members-loop-joint
+decreases-more_members-loop-joint l = length l.text - l.part.end

@@ -7,7 +7,7 @@ use Rattle.forms.proofs.numerals.digit_at.Goals as goal
 pub returns-then-at-text : goal.returns-then-at-text
 returns-then-at-text c =
     let lt : c.args.at < length c.args.text.now = omega arith in
-    c.is-digit.ensures ∙ sym (first_inside is_digit c.args.text.now c.args.at 0 lt)
+    c.is_digit.ensures ∙ sym (first_inside is_digit c.args.text.now c.args.at 0 lt)
 
 pub returns-else-at-text : goal.returns-else-at-text
 returns-else-at-text c =

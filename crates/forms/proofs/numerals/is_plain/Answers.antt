@@ -4,4 +4,4 @@ use Rattle.forms.proofs.numerals.is_plain.Goals as goal
 
 pub returns-else-count-lt2 : goal.returns-else-count-lt2
 returns-else-count-lt2 c =
-    ap not c.byte-is.ensures ∙ plain_first (drop c.args.at c.args.text.now) c.args.count c.if-count-lt2.false c.requires
+    ap not c.byte_is.ensures ∙ plain_first (drop c.args.at c.args.text.now) c.args.count c.if-count-lt2.false c.requires

@@ -21,41 +21,41 @@ returns-in-Some c =
     let at = c.args.at in
     opened_by text at Range (codes "[range ") c.in-Some.end (λ inner. from_seq inner (drop at text)) seven (c.in-Some.ensures.answer seven) (at_range text at)
 
-pub returns-in-Some-word-end : goal.returns-in-Some-word-end
-returns-in-Some-word-end c =
+pub returns-in-Some-word_end : goal.returns-in-Some-word_end
+returns-in-Some-word_end c =
     let text = c.args.text.now in
     let at = c.args.at in
-    opened_by text at (Members Sequence) (codes "[seq ") c.in-Some-word-end.end (λ inner. from_alt inner (drop at text)) five (c.in-Some-word-end.ensures.answer five)
-    (at_seq text at (c.in-default.ensures.answer seven))
+    opened_by text at (Members Sequence) (codes "[seq ") c.in-Some-word_end.end (λ inner. from_alt inner (drop at text)) five (c.in-Some-word_end.ensures.answer five)
+    (at_seq text at (c.in_default.ensures.answer seven))
 
-pub returns-in-Some-word-end-2 : goal.returns-in-Some-word-end-2
-returns-in-Some-word-end-2 c =
+pub returns-in-Some-word_end-2 : goal.returns-in-Some-word_end-2
+returns-in-Some-word_end-2 c =
     let text = c.args.text.now in
     let at = c.args.at in
-    opened_by text at (Members Alternatives) (codes "[alt ") c.in-Some-word-end-2.end (λ inner. from_star inner (drop at text)) five (c.in-Some-word-end-2.ensures.answer five)
-    (at_alt text at (c.in-default.ensures.answer seven) (c.in-default-word-end.ensures.answer five))
+    opened_by text at (Members Alternatives) (codes "[alt ") c.in-Some-word_end-2.end (λ inner. from_star inner (drop at text)) five (c.in-Some-word_end-2.ensures.answer five)
+    (at_alt text at (c.in_default.ensures.answer seven) (c.in_default-word_end.ensures.answer five))
 
-pub returns-in-Some-word-end-3 : goal.returns-in-Some-word-end-3
-returns-in-Some-word-end-3 c =
+pub returns-in-Some-word_end-3 : goal.returns-in-Some-word_end-3
+returns-in-Some-word_end-3 c =
     let text = c.args.text.now in
     let at = c.args.at in
-    opened_by text at (Marked AnyNumber) (codes "[star ") c.in-Some-word-end-3.end (λ inner. from_plus inner (drop at text)) six (c.in-Some-word-end-3.ensures.answer six)
-    (at_star text at (c.in-default.ensures.answer seven) (c.in-default-word-end.ensures.answer five) (c.in-default-word-end-2.ensures.answer five))
+    opened_by text at (Marked AnyNumber) (codes "[star ") c.in-Some-word_end-3.end (λ inner. from_plus inner (drop at text)) six (c.in-Some-word_end-3.ensures.answer six)
+    (at_star text at (c.in_default.ensures.answer seven) (c.in_default-word_end.ensures.answer five) (c.in_default-word_end-2.ensures.answer five))
 
-pub returns-in-Some-word-end-4 : goal.returns-in-Some-word-end-4
-returns-in-Some-word-end-4 c =
+pub returns-in-Some-word_end-4 : goal.returns-in-Some-word_end-4
+returns-in-Some-word_end-4 c =
     let text = c.args.text.now in
     let at = c.args.at in
-    opened_by text at (Marked AtLeastOne) (codes "[plus ") c.in-Some-word-end-4.end (λ inner. from_opt inner (drop at text)) six (c.in-Some-word-end-4.ensures.answer six)
-    (at_plus text at (c.in-default.ensures.answer seven) (c.in-default-word-end.ensures.answer five) (c.in-default-word-end-2.ensures.answer five) (c.in-default-word-end-3.ensures.answer six))
+    opened_by text at (Marked AtLeastOne) (codes "[plus ") c.in-Some-word_end-4.end (λ inner. from_opt inner (drop at text)) six (c.in-Some-word_end-4.ensures.answer six)
+    (at_plus text at (c.in_default.ensures.answer seven) (c.in_default-word_end.ensures.answer five) (c.in_default-word_end-2.ensures.answer five) (c.in_default-word_end-3.ensures.answer six))
 
-pub returns-in-Some-word-end-5 : goal.returns-in-Some-word-end-5
-returns-in-Some-word-end-5 c =
+pub returns-in-Some-word_end-5 : goal.returns-in-Some-word_end-5
+returns-in-Some-word_end-5 c =
     let text = c.args.text.now in
     let at = c.args.at in
-    opened_by text at (Marked Perhaps) (codes "[opt ") c.in-Some-word-end-5.end (λ inner. bad) five (c.in-Some-word-end-5.ensures.answer five)
-    (at_opt text at (c.in-default.ensures.answer seven) (c.in-default-word-end.ensures.answer five) (c.in-default-word-end-2.ensures.answer five) (c.in-default-word-end-3.ensures.answer six) (c.in-default-word-end-4.ensures.answer six))
+    opened_by text at (Marked Perhaps) (codes "[opt ") c.in-Some-word_end-5.end (λ inner. bad) five (c.in-Some-word_end-5.ensures.answer five)
+    (at_opt text at (c.in_default.ensures.answer seven) (c.in_default-word_end.ensures.answer five) (c.in_default-word_end-2.ensures.answer five) (c.in_default-word_end-3.ensures.answer six) (c.in_default-word_end-4.ensures.answer six))
 
 pub returns : goal.returns
 returns c =
-    at_none c.args.text.now c.args.at (c.in-default.ensures.answer seven) (c.in-default-word-end.ensures.answer five) (c.in-default-word-end-2.ensures.answer five) (c.in-default-word-end-3.ensures.answer six) (c.in-default-word-end-4.ensures.answer six) (c.in-default-word-end-5.ensures.answer five)
+    at_none c.args.text.now c.args.at (c.in_default.ensures.answer seven) (c.in_default-word_end.ensures.answer five) (c.in_default-word_end-2.ensures.answer five) (c.in_default-word_end-3.ensures.answer six) (c.in_default-word_end-4.ensures.answer six) (c.in_default-word_end-5.ensures.answer five)

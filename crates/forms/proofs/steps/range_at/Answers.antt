@@ -5,43 +5,43 @@ use Rattle.forms.proofs.steps.range_at.Goals as goal
 one : 0 < 1
 one = lit< tt
 
-pub returns-in-err-low : goal.returns-in-err-low
-returns-in-err-low c =
+pub returns-in_err-low : goal.returns-in_err-low
+returns-in_err-low c =
     let text = c.args.text.now in
     let at = c.args.at in
-    range_none text at c.from-residual.result c.from-residual.ensures (no_low text at c.in-err-low.ensures)
+    range_none text at c.from-residual.result c.from-residual.ensures (no_low text at c.in_err-low.ensures)
 
-pub returns-in-err-space : goal.returns-in-err-space
-returns-in-err-space c =
+pub returns-in_err-space : goal.returns-in_err-space
+returns-in_err-space c =
     let text = c.args.text.now in
     let at = c.args.at in
-    range_none text at c.from-residual-in-err-space.result c.from-residual-in-err-space.ensures
-    (no_space text at c.in-ok-low.low c.in-ok-low.ensures (c.in-err-space.ensures.answer one))
+    range_none text at c.from-residual-in_err-space.result c.from-residual-in_err-space.ensures
+    (no_space text at c.in_ok-low.low c.in_ok-low.ensures (c.in_err-space.ensures.answer one))
 
-pub returns-in-err-high : goal.returns-in-err-high
-returns-in-err-high c =
+pub returns-in_err-high : goal.returns-in_err-high
+returns-in_err-high c =
     let text = c.args.text.now in
     let at = c.args.at in
-    range_none text at c.from-residual-in-err-high.result c.from-residual-in-err-high.ensures
-    (no_high text at c.in-ok-low.low c.in-ok-low.ensures c.in-ok-space.space (c.in-ok-space.ensures.answer one) c.in-err-high.ensures)
+    range_none text at c.from-residual-in_err-high.result c.from-residual-in_err-high.ensures
+    (no_high text at c.in_ok-low.low c.in_ok-low.ensures c.in_ok-space.space (c.in_ok-space.ensures.answer one) c.in_err-high.ensures)
 
-pub returns-in-err-end : goal.returns-in-err-end
-returns-in-err-end c =
+pub returns-in_err-end : goal.returns-in_err-end
+returns-in_err-end c =
     let text = c.args.text.now in
     let at = c.args.at in
-    range_none text at c.from-residual-in-err-end.result c.from-residual-in-err-end.ensures
-    (no_end text at c.in-ok-low.low c.in-ok-low.ensures c.in-ok-space.space (c.in-ok-space.ensures.answer one) c.in-ok-high.high c.in-ok-high.ensures (c.in-err-end.ensures.answer one))
+    range_none text at c.from-residual-in_err-end.result c.from-residual-in_err-end.ensures
+    (no_end text at c.in_ok-low.low c.in_ok-low.ensures c.in_ok-space.space (c.in_ok-space.ensures.answer one) c.in_ok-high.high c.in_ok-high.ensures (c.in_err-end.ensures.answer one))
 
-pub returns-in-err-range : goal.returns-in-err-range
-returns-in-err-range c =
+pub returns-in_err-range : goal.returns-in_err-range
+returns-in_err-range c =
     let text = c.args.text.now in
     let at = c.args.at in
-    range_none text at c.from-residual-in-err-range.result c.from-residual-in-err-range.ensures
-    (no_range text at c.in-ok-low.low c.in-ok-low.ensures c.in-ok-space.space (c.in-ok-space.ensures.answer one) c.in-ok-high.high c.in-ok-high.ensures c.in-ok-end.end (c.in-ok-end.ensures.answer one) c.in-err-range.ensures)
+    range_none text at c.from-residual-in_err-range.result c.from-residual-in_err-range.ensures
+    (no_range text at c.in_ok-low.low c.in_ok-low.ensures c.in_ok-space.space (c.in_ok-space.ensures.answer one) c.in_ok-high.high c.in_ok-high.ensures c.in_ok-end.end (c.in_ok-end.ensures.answer one) c.in_err-range.ensures)
 
 pub returns : goal.returns
 returns c =
     let text = c.args.text.now in
     let at = c.args.at in
-    let made = c.in-ok-range.ensures in
-    ranged text at c.in-ok-low.low c.in-ok-low.ensures c.in-ok-space.space (c.in-ok-space.ensures.answer one) c.in-ok-high.high c.in-ok-high.ensures c.in-ok-end.end (c.in-ok-end.ensures.answer one) c.in-ok-range.range made.0 made.1
+    let made = c.in_ok-range.ensures in
+    ranged text at c.in_ok-low.low c.in_ok-low.ensures c.in_ok-space.space (c.in_ok-space.ensures.answer one) c.in_ok-high.high c.in_ok-high.ensures c.in_ok-end.end (c.in_ok-end.ensures.answer one) c.in_ok-range.range made.0 made.1

@@ -7,7 +7,7 @@ pub loop-number-preserved : goal.loop-number-preserved
 loop-number-preserved g c n low below =
     let C = g.C.Engine.language c.args.content.now in
     let V = g.V.Engine.language c.args.value.now in
-    below_more (λ n. 1 ≤ n → AgreesAt C V n true) c.loop-number.number (λ k under from. c.loop-number.invariant k from under) (λ from. c.if-not-agrees-at.ensures) n below low
+    below_more (λ n. 1 ≤ n → AgreesAt C V n true) c.loop-number.number (λ k under from. c.loop-number.invariant k from under) (λ from. c.if-not-agrees_at.ensures) n below low
 
 pub returns : goal.returns
 returns g c = agreed_all (g.C.Engine.language c.args.content.now) (g.V.Engine.language c.args.value.now) (λ n low high. c.loop-number.invariant n low (omega arith))

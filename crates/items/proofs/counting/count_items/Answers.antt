@@ -5,8 +5,8 @@ use Rattle.items.proofs.counting.count_items.Goals as goal
 pub loop-at-init : goal.loop-at-init
 loop-at-init c = tallied_start c.args.text.now
 
-pub returns-in-default : goal.returns-in-default
-returns-in-default c = tallied_none c.args.text.now c.loop-at.at c.loop-at.count c.loop-at.invariant c.loop-at-test.true c.in-default.ensures
+pub returns-in_default : goal.returns-in_default
+returns-in_default c = tallied_none c.args.text.now c.loop-at.at c.loop-at.count c.loop-at.invariant c.loop-at-test.true c.in_default.ensures
 
 pub loop-at-smaller : goal.loop-at-smaller
 loop-at-smaller c =

@@ -5,14 +5,14 @@ use Rattle.items.specs.Readers.{end_opened}
 use Rattle.items.proofs.Answering.{end_behind, end_unopened}
 use Rattle.items.proofs.markup.end_tag.Goals as goal
 
-pub returns-in-err-start : goal.returns-in-err-start
-returns-in-err-start c =
+pub returns-in_err-start : goal.returns-in_err-start
+returns-in_err-start c =
     let text = c.args.text.now in
     let f = word (codes "</") (drop c.args.at text) in
     subst (ItemOf text c.args.at (end_opened f)) (sym c.from-residual.ensures)
-    (end_unopened text c.args.at f (c.in-err-start.ensures.answer (lit< tt)))
+    (end_unopened text c.args.at f (c.in_err-start.ensures.answer (lit< tt)))
 
 pub returns : goal.returns
 returns c =
     let text = c.args.text.now in
-    end_behind text c.args.at c.in-ok-start.start (word (codes "</") (drop c.args.at text)) c.end-tag-named.result (c.in-ok-start.ensures.answer (lit< tt)) c.end-tag-named.ensures
+    end_behind text c.args.at c.in_ok-start.start (word (codes "</") (drop c.args.at text)) c.end_tag_named.result (c.in_ok-start.ensures.answer (lit< tt)) c.end_tag_named.ensures

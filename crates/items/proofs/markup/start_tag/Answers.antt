@@ -5,14 +5,14 @@ use Rattle.items.specs.Readers.{start_opened}
 use Rattle.items.proofs.Answering.{start_behind, start_unopened}
 use Rattle.items.proofs.markup.start_tag.Goals as goal
 
-pub returns-in-err-start : goal.returns-in-err-start
-returns-in-err-start c =
+pub returns-in_err-start : goal.returns-in_err-start
+returns-in_err-start c =
     let text = c.args.text.now in
     let f = word (codes "<") (drop c.args.at text) in
     subst (ItemOf text c.args.at (start_opened f)) (sym c.from-residual.ensures)
-    (start_unopened text c.args.at f (c.in-err-start.ensures.answer (lit< tt)))
+    (start_unopened text c.args.at f (c.in_err-start.ensures.answer (lit< tt)))
 
 pub returns : goal.returns
 returns c =
     let text = c.args.text.now in
-    start_behind text c.args.at c.in-ok-start.start (word (codes "<") (drop c.args.at text)) c.start-tag-named.result (c.in-ok-start.ensures.answer (lit< tt)) c.start-tag-named.ensures
+    start_behind text c.args.at c.in_ok-start.start (word (codes "<") (drop c.args.at text)) c.start_tag_named.result (c.in_ok-start.ensures.answer (lit< tt)) c.start_tag_named.ensures

@@ -7,4 +7,4 @@ returns-in-Some c = first_some c.args.text.now c.args.at _ _ c.in-Some.item (c.i
 
 pub returns-in-None : goal.returns-in-None
 returns-in-None c =
-    first_none c.args.text.now c.args.at _ _ c.closed-with-in-None.result (c.in-None.ensures (lit< tt)) (c.closed-with-in-None.ensures (lit< tt))
+    first_none c.args.text.now c.args.at _ _ c.closed_with-in-None.result (c.in-None.ensures (lit< tt)) (c.closed_with-in-None.ensures (lit< tt))

@@ -8,7 +8,7 @@ use Rattle.items.proofs.runs.goes_on.Goals as goal
 pub returns-then-at-text : goal.returns-then-at-text
 returns-then-at-text c =
     let lt : c.args.at < length c.args.text.now = omega arith in
-    ap not c.is-markup.ensures ∙ sym (first_inside (λ b. not (is_markup b)) c.args.text.now c.args.at 0 lt)
+    ap not c.is_markup.ensures ∙ sym (first_inside (λ b. not (is_markup b)) c.args.text.now c.args.at 0 lt)
 
 pub returns-else-at-text : goal.returns-else-at-text
 returns-else-at-text c =

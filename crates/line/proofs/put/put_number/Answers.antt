@@ -13,8 +13,8 @@ returns c =
       written = record {
         text = drop first places;
         decimal = c.spell-first.ensures.1;
-        put = subst (λ bs. Put bs c.args.out.now c.args.at c.put-bytes.new.out c.put-bytes.result) text c.put-bytes.ensures.written;
+        put = subst (λ bs. Put bs c.args.out.now c.args.at c.put_bytes.new.out c.put_bytes.result) text c.put_bytes.ensures.written;
       };
-      same = c.put-bytes.ensures.same;
+      same = c.put_bytes.ensures.same;
       one = one_decimal;
     }

@@ -17,8 +17,8 @@ some_place : (first left : ℕ) → 0 < left → left < 10 ^ first → 0 < first
 some_place zero left more small = absurd (omega arith)
 some_place (suc first) left more small = omega arith
 
-pub overflow-sub-first-in-loop-left : goal.overflow-sub-first-in-loop-left
-overflow-sub-first-in-loop-left c = some_place c.loop-left.first c.loop-left.left c.loop-left-test.true c.loop-left.invariant.2
+pub overflow_sub-first-in-loop-left : goal.overflow_sub-first-in-loop-left
+overflow_sub-first-in-loop-left c = some_place c.loop-left.first c.loop-left.left c.loop-left-test.true c.loop-left.invariant.2
 
 pub bounds-places-first-in-loop-left : goal.bounds-places-first-in-loop-left
 bounds-places-first-in-loop-left c = omega arith

@@ -4,15 +4,15 @@ use Rattle.line.specs.Pieces.{verbatim, decimal}
 use Rattle.line.proofs.Pieces.{bytes_put, and_then, no_room}
 use Rattle.line.proofs.writing.put_pass.Goals as goal
 
-pub returns-in-err-behind-events : goal.returns-in-err-behind-events
-returns-in-err-behind-events c =
-    no_room (verbatim (codes "] [bytes ") ∷ decimal c.args.bytes ∷ line_end ∷ []) c.from-residual.ensures c.in-err-behind-events.ensures
+pub returns-in_err-behind_events : goal.returns-in_err-behind_events
+returns-in_err-behind_events c =
+    no_room (verbatim (codes "] [bytes ") ∷ decimal c.args.bytes ∷ line_end ∷ []) c.from-residual.ensures c.in_err-behind_events.ensures
 
-pub returns-in-err-behind-bytes : goal.returns-in-err-behind-bytes
-returns-in-err-behind-bytes c =
-    no_room (line_end ∷ []) c.from-residual-in-err-behind-bytes.ensures
-    (and_then c.in-ok-behind-events.ensures c.in-err-behind-bytes.ensures)
+pub returns-in_err-behind_bytes : goal.returns-in_err-behind_bytes
+returns-in_err-behind_bytes c =
+    no_room (line_end ∷ []) c.from-residual-in_err-behind_bytes.ensures
+    (and_then c.in_ok-behind_events.ensures c.in_err-behind_bytes.ensures)
 
 pub returns : goal.returns
 returns c =
-    and_then (and_then c.in-ok-behind-events.ensures c.in-ok-behind-bytes.ensures) (bytes_put c.put-bytes.ensures.written)
+    and_then (and_then c.in_ok-behind_events.ensures c.in_ok-behind_bytes.ensures) (bytes_put c.put_bytes.ensures.written)

@@ -4,21 +4,21 @@ use Rattle.models.proofs.Folding.{turned_atom}
 use Rattle.models.proofs.Stacks.{join_short, takes_by, takes_none}
 use Rattle.models.proofs.evaluation.turn.Goals as goal
 
-pub returns-in-err-left : goal.returns-in-err-left
-returns-in-err-left g c d =
+pub returns-in_err-left : goal.returns-in_err-left
+returns-in_err-left g c d =
     let o = g.G.Algebra.operations c.args.algebra.now in
     let w = c.args.work.now in
     takes_none d _ w _ c.from-residual.ensures
     (ap (λ x. turned o (length w) x (stack d w c.args.reached)) c.in-Seq.is
-    ∙ join_short d o.both w c.args.reached.height c.args.reached.atoms (omega (arith, c.in-err-left.ensures.enough)))
+    ∙ join_short d o.both w c.args.reached.height c.args.reached.atoms (omega (arith, c.in_err-left.ensures.enough)))
 
-pub returns-in-err-left-2 : goal.returns-in-err-left-2
-returns-in-err-left-2 g c d =
+pub returns-in_err-left-2 : goal.returns-in_err-left-2
+returns-in_err-left-2 g c d =
     let o = g.G.Algebra.operations c.args.algebra.now in
     let w = c.args.work.now in
-    takes_none d _ w _ c.from-residual-in-err-left-2.ensures
+    takes_none d _ w _ c.from-residual-in_err-left-2.ensures
     (ap (λ x. turned o (length w) x (stack d w c.args.reached)) c.in-Alt.is
-    ∙ join_short d o.either w c.args.reached.height c.args.reached.atoms (omega (arith, c.in-err-left-2.ensures.enough)))
+    ∙ join_short d o.either w c.args.reached.height c.args.reached.atoms (omega (arith, c.in_err-left-2.ensures.enough)))
 
 pub returns-in-Empty : goal.returns-in-Empty
 returns-in-Empty g c d =
@@ -26,16 +26,16 @@ returns-in-Empty g c d =
     let w = c.args.work.now in
     takes_by d _ _ _ _
     (ap (λ x. turned o (length w) x (stack d w c.args.reached)) c.in-Empty.is
-    ∙ ap (λ v. pushed (length w) v (stack d w c.args.reached)) (sym c.empty-word.ensures))
+    ∙ ap (λ v. pushed (length w) v (stack d w c.args.reached)) (sym c.empty_word.ensures))
     (c.push.ensures d)
 
-pub returns-then-atoms-lt-MOST-ATOMS : goal.returns-then-atoms-lt-MOST-ATOMS
-returns-then-atoms-lt-MOST-ATOMS g c d =
+pub returns-then-atoms-lt-MOST_ATOMS : goal.returns-then-atoms-lt-MOST_ATOMS
+returns-then-atoms-lt-MOST_ATOMS g c d =
     let o = g.G.Algebra.operations c.args.algebra.now in
     let w = c.args.work.now in
     let n = c.args.reached.atoms in
     takes_by d _ _ _ _
     (ap (λ x. turned o (length w) x (stack d w c.args.reached)) c.in-Atom.is
-    ∙ turned_atom o (length w) c.in-Atom.atom (stack d w c.args.reached) c.if-atoms-lt-MOST-ATOMS.true
+    ∙ turned_atom o (length w) c.in-Atom.atom (stack d w c.args.reached) c.if-atoms-lt-MOST_ATOMS.true
     ∙ ap (λ v. pushed (length w) v (tops d w c.args.reached.height, n + 1)) (sym c.single.ensures))
-    (c.push-then-atoms-lt-MOST-ATOMS.ensures d)
+    (c.push-then-atoms-lt-MOST_ATOMS.ensures d)

@@ -2,7 +2,7 @@ use Rattle.std.proofs.Common.{◌≡◌, length, take, sym, ap, ◌∙◌, subst
 use Rattle.models.specs.Readers.{atoms_of, Numbered}
 use Rattle.positions.proofs.Entries.{met_same, met_atom, met_number, atom_found, atom_missing}
 use Rattle.positions.proofs.rows.atom_of.Goals as goal
-use Rattle.positions.proofs.rows.atom_of.Goals.{in-Atom+else-met-number, in-default}
+use Rattle.positions.proofs.rows.atom_of.Goals.{in-Atom+else-met-number, in_default}
 
 pub returns-then-met-number : goal.returns-then-met-number
 returns-then-met-number g c =
@@ -24,8 +24,8 @@ loop-node-preserved g c =
       | in-Atom+else-met-number w ↦
           let m = met_atom nodes i x w.in-Atom.field-0 c.loop-node-test.true c.node-item.is w.in-Atom.is in
           (omega (arith, w.met-is, inv.0), omega (arith, w.met-is, inv.1, m), elim inv.2 [ inl h ↦ inl (omega (arith, w.met-is, h, w.if-met-number.false)) | inr h ↦ inr h ])
-      | in-default w ↦
-          let m = met_same nodes i x c.loop-node-test.true c.node-item.is w.in-default.not-Atom in
+      | in_default w ↦
+          let m = met_same nodes i x c.loop-node-test.true c.node-item.is w.in_default.not-Atom in
           (omega (arith, w.met-is, inv.0), omega (arith, w.met-is, inv.1, m), elim inv.2 [ inl h ↦ inl (omega (arith, w.met-is, h)) | inr h ↦ inr h ])
     ]
 

@@ -11,9 +11,9 @@ loop-i-preserved g c =
     let i = c.loop-i.i in
     let lt : i < length atoms = omega arith in
     below_more _ _
-    (λ k h. let ne : k ≢ i = omega arith in subst (NodeAt nodes models k) (sym (get_or-set_other atoms i k c.atom-of.result Unused ne)) (c.loop-i.invariant k h))
-    (subst (NodeAt nodes models i) (sym (get_or-set_same atoms i c.atom-of.result Unused lt))
-    (λ e h. subst (λ ns. AtomAt ns (i % 64) c.atom-of.result) ((c.nodes-of.ensures e).1 h).coded c.atom-of.ensures))
+    (λ k h. let ne : k ≢ i = omega arith in subst (NodeAt nodes models k) (sym (get_or-set_other atoms i k c.atom_of.result Unused ne)) (c.loop-i.invariant k h))
+    (subst (NodeAt nodes models i) (sym (get_or-set_same atoms i c.atom_of.result Unused lt))
+    (λ e h. subst (λ ns. AtomAt ns (i % 64) c.atom_of.result) ((c.nodes_of.ensures e).1 h).coded c.atom_of.ensures))
 
 pub returns : goal.returns
 returns g c i lt = c.loop-i.invariant i (omega arith)

@@ -10,5 +10,5 @@ loop-i-preserved g c =
     let i = c.loop-i.i in
     let lt : i < length rows = omega arith in
     below_more _ _
-    (λ k h. let ne : k ≢ i = omega arith in subst (RowAt nodes models k) (sym (get_or-set_other rows i k c.row-at.result 0 ne)) (c.loop-i.invariant k h))
-    (subst (RowAt nodes models i) (sym (get_or-set_same rows i c.row-at.result 0 lt)) c.row-at.ensures)
+    (λ k h. let ne : k ≢ i = omega arith in subst (RowAt nodes models k) (sym (get_or-set_other rows i k c.row_at.result 0 ne)) (c.loop-i.invariant k h))
+    (subst (RowAt nodes models i) (sym (get_or-set_same rows i c.row_at.result 0 lt)) c.row_at.ensures)

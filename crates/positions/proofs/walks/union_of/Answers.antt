@@ -19,4 +19,4 @@ loop-lowest-preserved c =
     (λ n. (has_or got one n, elim [ inl h ↦ has_or_l got one n h | inr h ↦ has_or_r got one n h ])))
 
 pub returns : goal.returns
-returns c = gathered_all (λ q n. Has (get_or c.args.rows.now (c.args.base + q) 0) n) c.args.set c.loop-lowest.left c.loop-lowest.union c.in-default.ensures c.loop-lowest.invariant
+returns c = gathered_all (λ q n. Has (get_or c.args.rows.now (c.args.base + q) 0) n) c.args.set c.loop-lowest.left c.loop-lowest.union c.in_default.ensures c.loop-lowest.invariant

@@ -6,10 +6,10 @@ use Rattle.scan.proofs.names.name_char.Goals as goal
 pub returns-then-at-text : goal.returns-then-at-text
 returns-then-at-text c = width_past (cond c.args.first is_initial is_name_byte) c.args.text.now c.args.at c.if-at-text.true
 
-pub returns-then-may-stand : goal.returns-then-may-stand
-returns-then-may-stand c =
-    width_one (cond c.args.first is_initial is_name_byte) c.args.text.now c.args.at c.if-at-text.false (sym c.may-stand.ensures ∙ c.if-may-stand.true)
+pub returns-then-may_stand : goal.returns-then-may_stand
+returns-then-may_stand c =
+    width_one (cond c.args.first is_initial is_name_byte) c.args.text.now c.args.at c.if-at-text.false (sym c.may_stand.ensures ∙ c.if-may_stand.true)
 
-pub returns-else-may-stand : goal.returns-else-may-stand
-returns-else-may-stand c =
-    width_zero (cond c.args.first is_initial is_name_byte) c.args.text.now c.args.at c.if-at-text.false (sym c.may-stand.ensures ∙ c.if-may-stand.false)
+pub returns-else-may_stand : goal.returns-else-may_stand
+returns-else-may_stand c =
+    width_zero (cond c.args.first is_initial is_name_byte) c.args.text.now c.args.at c.if-at-text.false (sym c.may_stand.ensures ∙ c.if-may_stand.false)

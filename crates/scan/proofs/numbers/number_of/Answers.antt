@@ -16,11 +16,11 @@ loop-index-preserved c =
     let count : length (take 63 es) ≡ min 63 (length es) = length-take 63 es in
     let lt : i < 63 = omega arith in
     let apart : same (name_at text (get_or (take 63 es) i zero_entry)) name ≡ false =
-    ap (λ e. same (name_at text e) name) (get_or-take 63 es i zero_entry lt) ∙ ap (λ n. same n name) (sym c.name-of.ensures) ∙ sym c.same-name.ensures ∙ c.if-same-name.false in
+    ap (λ e. same (name_at text e) name) (get_or-take 63 es i zero_entry lt) ∙ ap (λ n. same n name) (sym c.name_of.ensures) ∙ sym c.same_name.ensures ∙ c.if-same_name.false in
     c.loop-index.invariant ∙ number_later text (take 63 es) name i zero_entry (omega arith) apart
 
-pub returns-then-same-name : goal.returns-then-same-name
-returns-then-same-name c =
+pub returns-then-same_name : goal.returns-then-same_name
+returns-then-same_name c =
     let text = c.args.text.now in
     let es = c.args.entries.now in
     let name = c.args.name.now in
@@ -28,7 +28,7 @@ returns-then-same-name c =
     let count : length (take 63 es) ≡ min 63 (length es) = length-take 63 es in
     let lt : i < 63 = omega arith in
     let this : same (name_at text (get_or (take 63 es) i zero_entry)) name ≡ true =
-    ap (λ e. same (name_at text e) name) (get_or-take 63 es i zero_entry lt) ∙ ap (λ n. same n name) (sym c.name-of.ensures) ∙ sym c.same-name.ensures ∙ c.if-same-name.true in
+    ap (λ e. same (name_at text e) name) (get_or-take 63 es i zero_entry lt) ∙ ap (λ n. same n name) (sym c.name_of.ensures) ∙ sym c.same_name.ensures ∙ c.if-same_name.true in
     sym (c.loop-index.invariant ∙ number_here text (take 63 es) name i zero_entry (omega arith) this)
 
 pub returns : goal.returns

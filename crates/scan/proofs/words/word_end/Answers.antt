@@ -4,17 +4,17 @@ use Rattle.scan.proofs.Fronts.{first_there}
 use Rattle.scan.proofs.Wording.{reached_more, reached_none, reached_all}
 use Rattle.scan.proofs.words.word_end.Goals as goal
 
-stands : (c : goal.Else-not-byte-is) → first_is (eqb (get_or c.args.word.now c.loop-byte.byte-index 0)) (drop c.loop-byte.here c.args.text.now) ≡ true
-stands c = sym c.byte-is.ensures ∙ c.if-not-byte-is.false
+stands : (c : goal.Else-not-byte_is) → first_is (eqb (get_or c.args.word.now c.loop-byte.byte-index 0)) (drop c.loop-byte.here c.args.text.now) ≡ true
+stands c = sym c.byte_is.ensures ∙ c.if-not-byte_is.false
 
-pub returns-then-not-byte-is : goal.returns-then-not-byte-is
-returns-then-not-byte-is c = record {
-  answer = λ _. reached_none c.args.text.now c.args.at c.args.word.now c.loop-byte.byte-index c.loop-byte.here c.loop-byte-test.true (sym c.byte-is.ensures ∙ c.if-not-byte-is.true) c.loop-byte.invariant;
+pub returns-then-not-byte_is : goal.returns-then-not-byte_is
+returns-then-not-byte_is c = record {
+  answer = λ _. reached_none c.args.text.now c.args.at c.args.word.now c.loop-byte.byte-index c.loop-byte.here c.loop-byte-test.true (sym c.byte_is.ensures ∙ c.if-not-byte_is.true) c.loop-byte.invariant;
   empty = λ none. let short : length c.args.word.now ≡ 0 = ap length none in absurd (omega arith);
 }
 
-pub overflow-add-here : goal.overflow-add-here
-overflow-add-here c =
+pub overflow_add-here : goal.overflow_add-here
+overflow_add-here c =
     let there : c.loop-byte.here < length c.args.text.now = first_there (eqb (get_or c.args.word.now c.loop-byte.byte-index 0)) c.args.text.now c.loop-byte.here (stands c) in
     search rules
 

@@ -8,9 +8,9 @@ use Rattle.sealed.specs.Checks.{Names}
 use Rattle.sealed.proofs.Atoms.{atoms_more, atoms_each}
 use Rattle.sealed.proofs.questions.all_declared.Goals as goal
 
-pub returns-then-not-names-declared : goal.returns-then-not-names-declared
-returns-then-not-names-declared c h =
-    decided_no c.names-declared.result c.names-declared.ensures c.if-not-names-declared.true
+pub returns-then-not-names_declared : goal.returns-then-not-names_declared
+returns-then-not-names_declared c h =
+    decided_no c.names_declared.result c.names_declared.ensures c.if-not-names_declared.true
     (atoms_each (Names c.args.last) c.args.nodes.now h c.loop-node.node-index c.loop-node-test.true)
 
 pub loop-node-preserved : goal.loop-node-preserved
@@ -19,7 +19,7 @@ loop-node-preserved c =
     let i = c.loop-node.node-index in
     let P = Names c.args.last in
     subst (λ seen. Each P (atoms_of seen)) (sym (take_more nodes i Unused c.loop-node-test.true))
-    (atoms_more P (take i nodes) (get_or nodes i Unused) c.loop-node.invariant (decided_yes c.names-declared.result c.names-declared.ensures c.if-not-names-declared.false))
+    (atoms_more P (take i nodes) (get_or nodes i Unused) c.loop-node.invariant (decided_yes c.names_declared.result c.names_declared.ensures c.if-not-names_declared.false))
 
 pub returns : goal.returns
 returns c =

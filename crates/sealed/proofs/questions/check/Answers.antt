@@ -2,18 +2,18 @@ use Rattle.std.proofs.Common.{◌≤◌, length, Some, None, arith}
 use Rattle.sealed.proofs.Checking.{ambiguity_here, trees_here}
 use Rattle.sealed.proofs.questions.check.Goals as goal
 
-pub returns-in-Some-first-ambiguous : goal.returns-in-Some-first-ambiguous
-returns-in-Some-first-ambiguous c =
+pub returns-in-Some-first_ambiguous : goal.returns-in-Some-first_ambiguous
+returns-in-Some-first_ambiguous c =
     let few : length c.args.models.now ≤ 63 = omega arith in
-    (few, c.in-default.ensures, ambiguity_here c.args.nodes.now c.args.models.now few (Some c.in-Some-first-ambiguous.number) c.in-Some-first-ambiguous.ensures)
+    (few, c.in_default.ensures, ambiguity_here c.args.nodes.now c.args.models.now few (Some c.in-Some-first_ambiguous.number) c.in-Some-first_ambiguous.ensures)
 
-pub returns-in-Some-first-without-tree : goal.returns-in-Some-first-without-tree
-returns-in-Some-first-without-tree c =
+pub returns-in-Some-first_without_tree : goal.returns-in-Some-first_without_tree
+returns-in-Some-first_without_tree c =
     let few : length c.args.models.now ≤ 63 = omega arith in (
       few,
-      c.in-default.ensures,
-      ambiguity_here c.args.nodes.now c.args.models.now few None c.in-default-first-ambiguous.ensures,
-      trees_here c.args.nodes.now c.args.models.now few (Some c.in-Some-first-without-tree.number) c.in-Some-first-without-tree.ensures,
+      c.in_default.ensures,
+      ambiguity_here c.args.nodes.now c.args.models.now few None c.in_default-first_ambiguous.ensures,
+      trees_here c.args.nodes.now c.args.models.now few (Some c.in-Some-first_without_tree.number) c.in-Some-first_without_tree.ensures,
     )
 
 pub returns : goal.returns
@@ -21,7 +21,7 @@ returns c =
     let few : length c.args.models.now ≤ 63 = omega arith in
     record {
       few = few;
-      modelled = c.in-default.ensures;
-      unambiguous = ambiguity_here c.args.nodes.now c.args.models.now few None c.in-default-first-ambiguous.ensures;
-      trees = trees_here c.args.nodes.now c.args.models.now few None c.in-default-first-without-tree.ensures;
+      modelled = c.in_default.ensures;
+      unambiguous = ambiguity_here c.args.nodes.now c.args.models.now few None c.in_default-first_ambiguous.ensures;
+      trees = trees_here c.args.nodes.now c.args.models.now few None c.in_default-first_without_tree.ensures;
     }

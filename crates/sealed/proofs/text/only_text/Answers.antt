@@ -8,9 +8,9 @@ use Rattle.sealed.specs.Texts.{TextOnly}
 use Rattle.sealed.proofs.Atoms.{atoms_more, atoms_each}
 use Rattle.sealed.proofs.text.only_text.Goals as goal
 
-pub returns-then-not-is-text : goal.returns-then-not-is-text
-returns-then-not-is-text c h =
-    decided_no c.is-text.result c.is-text.ensures c.if-not-is-text.true
+pub returns-then-not-is_text : goal.returns-then-not-is_text
+returns-then-not-is_text c h =
+    decided_no c.is_text.result c.is_text.ensures c.if-not-is_text.true
     (atoms_each TextOnly c.args.nodes.now h c.loop-node.node-index c.loop-node-test.true)
 
 pub loop-node-preserved : goal.loop-node-preserved
@@ -18,7 +18,7 @@ loop-node-preserved c =
     let nodes = c.args.nodes.now in
     let i = c.loop-node.node-index in
     subst (λ seen. Each TextOnly (atoms_of seen)) (sym (take_more nodes i Unused c.loop-node-test.true))
-    (atoms_more TextOnly (take i nodes) (get_or nodes i Unused) c.loop-node.invariant (decided_yes c.is-text.result c.is-text.ensures c.if-not-is-text.false))
+    (atoms_more TextOnly (take i nodes) (get_or nodes i Unused) c.loop-node.invariant (decided_yes c.is_text.result c.is_text.ensures c.if-not-is_text.false))
 
 pub returns : goal.returns
 returns c =

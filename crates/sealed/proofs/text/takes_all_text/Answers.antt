@@ -2,8 +2,8 @@ use Rattle.std.proofs.Common.{sym, ◌∙◌, arith}
 use Rattle.sealed.proofs.Walking.{walked_more, all_texts, not_all_texts}
 use Rattle.sealed.proofs.text.takes_all_text.Goals as goal
 
-pub returns-in-default : goal.returns-in-default
-returns-in-default c = not_all_texts c.args.nodes.now c.loop-next.seen c.loop-next.last c.loop-next.invariant c.in-default.ensures
+pub returns-in_default : goal.returns-in_default
+returns-in_default c = not_all_texts c.args.nodes.now c.loop-next.seen c.loop-next.last c.loop-next.invariant c.in_default.ensures
 
 pub loop-next-preserved : goal.loop-next-preserved
 loop-next-preserved c =

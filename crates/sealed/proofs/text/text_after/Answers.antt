@@ -2,14 +2,14 @@ use Rattle.std.proofs.Common.{sym, ◌∙◌}
 use Rattle.sealed.proofs.Walking.{no_end, text_told}
 use Rattle.sealed.proofs.text.text_after.Goals as goal
 
-pub returns-then-not-may-end : goal.returns-then-not-may-end
-returns-then-not-may-end c =
+pub returns-then-not-may_end : goal.returns-then-not-may_end
+returns-then-not-may_end c =
     let got = c.in-Some.ensures in
     no_end c.args.nodes.now c.args.last c.requires c.readers.result c.readers.ensures c.only-state.result c.only-state.ensures
-    c.in-Some.derived got.0 got.1 got.2 (sym c.may-end.ensures ∙ c.if-not-may-end.true)
+    c.in-Some.derived got.0 got.1 got.2 (sym c.may_end.ensures ∙ c.if-not-may_end.true)
 
 pub returns : goal.returns
 returns c =
     let got = c.in-Some.ensures in
     text_told c.args.nodes.now c.args.last c.requires c.readers.result c.readers.ensures c.only-state.result c.only-state.ensures
-    c.in-Some.derived got.0 got.1 got.2 (sym c.may-end.ensures ∙ c.if-not-may-end.false) c.reached.result c.reached.ensures c.lowest.result c.lowest.ensures
+    c.in-Some.derived got.0 got.1 got.2 (sym c.may_end.ensures ∙ c.if-not-may_end.false) c.reached.result c.reached.ensures c.lowest.result c.lowest.ensures

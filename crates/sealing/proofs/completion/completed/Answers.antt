@@ -11,4 +11,4 @@ loop-number-preserved c =
     c.with-set.ensures.others
 
 pub returns : goal.returns
-returns c = completed_all c.args.nodes.now c.args.models.now c.loop-number.set c.requires c.loop-number.invariant c.in-default.ensures
+returns c = completed_all c.args.nodes.now c.args.models.now c.loop-number.set c.requires c.loop-number.invariant c.in_default.ensures

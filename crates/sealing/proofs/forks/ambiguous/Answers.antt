@@ -8,9 +8,9 @@ use Rattle.sealing.proofs.Firsts.{decided_yes, decided_no}
 use Rattle.sealing.proofs.Forking.{found_ambiguous, found_none, no_fork_more, NoFork}
 use Rattle.sealing.proofs.forks.ambiguous.Goals as goal
 
-pub returns-then-forks-at : goal.returns-then-forks-at
-returns-then-forks-at c =
-    let (a, is, (p, low, f)) = decided_yes c.forks-at.result c.forks-at.ensures c.if-forks-at.true in
+pub returns-then-forks_at : goal.returns-then-forks_at
+returns-then-forks_at c =
+    let (a, is, (p, low, f)) = decided_yes c.forks_at.result c.forks_at.ensures c.if-forks_at.true in
     found_ambiguous c.args.nodes.now (content_sample a) p f
 
 pub loop-node-preserved : goal.loop-node-preserved
@@ -19,7 +19,7 @@ loop-node-preserved c =
     let i = c.loop-node.node-index in
     let x = get_or nodes i Unused in
     subst (λ seen. Each (NoFork nodes) (atoms_of seen)) (sym (take_more nodes i Unused c.loop-node-test.true))
-    (no_fork_more nodes (take i nodes) x c.loop-node.invariant (decided_no c.forks-at.result c.forks-at.ensures c.if-forks-at.false))
+    (no_fork_more nodes (take i nodes) x c.loop-node.invariant (decided_no c.forks_at.result c.forks_at.ensures c.if-forks_at.false))
 
 pub returns : goal.returns
 returns c =

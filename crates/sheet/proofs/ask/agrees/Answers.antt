@@ -9,7 +9,7 @@ loop-number-preserved g c n low below =
     let CR = g.C.Engine.rest c.args.content.now in
     let V = g.V.Engine.language c.args.value.now in
     let VR = g.V.Engine.rest c.args.value.now in
-    below_more (λ n. 1 ≤ n → AgreesAt C CR V VR n true) c.loop-number.number (λ k under from. c.loop-number.invariant k from under) (λ from. c.if-not-agrees-at.ensures) n below low
+    below_more (λ n. 1 ≤ n → AgreesAt C CR V VR n true) c.loop-number.number (λ k under from. c.loop-number.invariant k from under) (λ from. c.if-not-agrees_at.ensures) n below low
 
 pub returns : goal.returns
 returns g c =

@@ -8,12 +8,12 @@ pub loop-number-preserved : goal.loop-number-preserved
 loop-number-preserved g c =
     let (text, below, above) = c.loop-number.invariant in
     let i = c.loop-number.number in
-    let set = c.with-if-set.result in
-    let others = c.with-if-set.ensures.others in
+    let set = c.with_if-set.result in
+    let others = c.with_if-set.ensures.others in
     let Next : ℕ → Type 0 = λ n. Inhabited (residue (g.C.Engine.rest c.args.content.now c.args.frame.number c.args.frame.content) (Element n ∷ [])) in (
       others 0 (λ e. omega arith) ∙ text,
       (λ n low high. below_more (λ k. 1 ≤ k → Decides (has set k) (Next k)) i
           (λ k under from. subst (λ b. Decides b (Next k)) (sym (others k (λ e. omega arith))) (below k from under))
-          (λ from. subst (λ b. Decides b (Next i)) (sym (c.with-if-set.ensures.here (omega arith) (above i (omega arith)))) c.goes-on-next.ensures) n high low),
+          (λ from. subst (λ b. Decides b (Next i)) (sym (c.with_if-set.ensures.here (omega arith) (above i (omega arith)))) c.goes_on-next.ensures) n high low),
       λ n past. others n (λ e. omega arith) ∙ above n (omega arith),
     )

@@ -6,7 +6,7 @@ use Rattle.sheet.specs.declared.answer.Answer.TheVariants.{Accepted}
 use Rattle.sheet.specs.declared.call.Call.TheVariants.{Begin}
 use Rattle.sheet.proofs.Replaying.{resent_as, resent_none, resent_refused, resent_full, resent_more, resent_all}
 use Rattle.sheet.proofs.runs.send_granted.Goals as goal
-use Rattle.sheet.proofs.runs.send_granted.Goals.{then-not-is-refused+then-sent-again, else-not-is-refused, else-not-is-refused-via-then-not-is-refused+else-sent-again, else-not-is-refused-via-else-not-is-refused}
+use Rattle.sheet.proofs.runs.send_granted.Goals.{then-not-is_refused+then-sent-again, else-not-is_refused, else-not-is_refused-via-then-not-is_refused+else-sent-again, else-not-is_refused-via-else-not-is_refused}
 
 pub loop-i-init : goal.loop-i-init
 loop-i-init g c = (
@@ -33,26 +33,26 @@ loop-i-preserved g c =
     let s = c.loop-i.sheet.state in
     let some : i < length calls = omega arith in
     let room : i < length answers = omega arith in
-    let told = c.is-refused.ensures in
-    elim c.if-not-is-refused.branch [
-      | then-not-is-refused+then-sent-again w ↦
+    let told = c.is_refused.ensures in
+    elim c.if-not-is_refused.branch [
+      | then-not-is_refused+then-sent-again w ↦
           let t = w.answer.new.self.state in
           let moves = subst₂ (λ x y. Moves (C x) (CR x) (V y) (VR y) s t (sent (get_or calls i (Begin 0))) (shown w.answer.result)) same-content same-value w.answer.ensures.moves in (
             ap (λ sheet. sheet.content.now) w.sheet-is ∙ (ap (λ r. r.now) w.answer.ensures.content ∙ same-content),
             ap (λ sheet. sheet.value.now) w.sheet-is ∙ (ap (λ r. r.now) w.answer.ensures.value ∙ same-value),
             λ right. resent_as (C x) (CR x) (V y) (VR y) calls answers before _ (i + 1) (m + 1) t w.again-is w.sent-is (ap (λ sheet. sheet.state) w.sheet-is)
                 (resent_more (C x) (CR x) (V y) (VR y) calls answers before again i m s (Begin 0) Accepted some room t w.answer.result right
-                (sym told ∙ w.if-not-is-refused.true) c.loop-i.auto.again w.if-sent-again.true moves (resent right)),
+                (sym told ∙ w.if-not-is_refused.true) c.loop-i.auto.again w.if-sent-again.true moves (resent right)),
           )
-      | else-not-is-refused w ↦ (
+      | else-not-is_refused w ↦ (
         ap (λ sheet. sheet.content.now) w.sheet-is ∙ same-content,
         ap (λ sheet. sheet.value.now) w.sheet-is ∙ same-value,
         λ right. resent_as (C x) (CR x) (V y) (VR y) calls answers before again (i + 1) m s w.again-is w.sent-is (ap (λ sheet. sheet.state) w.sheet-is)
-            (elim w.else-not-is-refused.branch [
-              | else-not-is-refused-via-then-not-is-refused+else-sent-again w' ↦
-                  resent_full (C x) (CR x) (V y) (VR y) calls answers before again i m s (Begin 0) Accepted some room (sym told ∙ w'.if-not-is-refused.true) (omega arith) (resent right)
-              | else-not-is-refused-via-else-not-is-refused w' ↦
-                  resent_refused (C x) (CR x) (V y) (VR y) calls answers before again i m s (Begin 0) Accepted some room (sym told ∙ w'.if-not-is-refused.false) (resent right)
+            (elim w.else-not-is_refused.branch [
+              | else-not-is_refused-via-then-not-is_refused+else-sent-again w' ↦
+                  resent_full (C x) (CR x) (V y) (VR y) calls answers before again i m s (Begin 0) Accepted some room (sym told ∙ w'.if-not-is_refused.true) (omega arith) (resent right)
+              | else-not-is_refused-via-else-not-is_refused w' ↦
+                  resent_refused (C x) (CR x) (V y) (VR y) calls answers before again i m s (Begin 0) Accepted some room (sym told ∙ w'.if-not-is_refused.false) (resent right)
             ]),
       )
     ]

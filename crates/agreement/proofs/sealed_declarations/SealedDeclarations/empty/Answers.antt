@@ -7,8 +7,8 @@ use Rattle.declarations.specs.Readers.{item}
 use Rattle.drafts.specs.Drafted.{found_in}
 use Rattle.agreement.proofs.sealed_declarations.SealedDeclarations.empty.Goals as goal
 
-pub invariant-of-result : goal.invariant-of-result
+pub invariant_of-result : goal.invariant_of-result
 unfolding turns item found_in
-invariant-of-result c =
+invariant_of-result c =
     let P : List (Node ContentAtom) → Type 0 = λ ns. ns ≡ replicate (length ns - 0) Unused in
     (refl, (∣ subst P (sym c.empty.ensures.tables.0) refl ∣₁, (∣ c.empty.ensures.tables.1 ∣₁, tt)))

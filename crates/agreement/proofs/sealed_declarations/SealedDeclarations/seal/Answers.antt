@@ -39,9 +39,9 @@ returns-in-Err c =
       languages = tt;
     }
 
-pub invariant-of-self : goal.invariant-of-self
-invariant-of-self c =
-    let held = c.in-default.ensures.tables in
+pub invariant_of-self : goal.invariant_of-self
+invariant_of-self c =
+    let held = c.in_default.ensures.tables in
     let P : List (Node ContentAtom) → Type 0 = λ ns. ns ≡ filled Unused (length ns) (all_code (text_models c.text.result.now)) in
     let t : c.args.draft.now.text.now ≡ c.text.result.now = sym c.text.ensures in
     let coded : P c.nodes.result.now = subst (λ x. c.nodes.result.now ≡ filled Unused (length c.nodes.result.now) (all_code (text_models x))) t c.nodes.ensures in (
@@ -57,8 +57,8 @@ returns c =
     let t = c.args.draft.now.text.now in
     let accepted = accepted_yes most t c.args.draft.now.asked in
     let after = replicate (length c.nodes.result.now - length (all_code (text_models t))) Unused in
-    let judged = of_text (λ ns ms. Judged ns ms (Ok tt)) t c.nodes.result.now c.models.result.now c.nodes.ensures c.models.ensures c.in-default.ensures.answer in
-    let speaks = of_text (λ ns ms. Speaks StandsFor ns ms (meaning.language c.fill.new.self)) t c.nodes.result.now c.models.result.now c.nodes.ensures c.models.ensures c.in-default.ensures.languages in
+    let judged = of_text (λ ns ms. Judged ns ms (Ok tt)) t c.nodes.result.now c.models.result.now c.nodes.ensures c.models.ensures c.in_default.ensures.answer in
+    let speaks = of_text (λ ns ms. Speaks StandsFor ns ms (meaning.language c.fill.new.self)) t c.nodes.result.now c.models.result.now c.nodes.ensures c.models.ensures c.in_default.ensures.languages in
     record {
       answer = sealed_ok t accepted after tt judged;
       made = (c.text.ensures, c.empty.ensures);

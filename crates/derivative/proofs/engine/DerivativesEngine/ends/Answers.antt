@@ -12,4 +12,4 @@ returns-in-Some g c =
     let nodes = c.args.self.now.nodes.now in
     let models = c.args.self.now.models.now in
     let got = c.in-Some.ensures in
-    ends_known stands nodes models c.args.number got.0 ((c.nodes-of.ensures got.0).0 got.1) c.args.state 0 c.in-Some.derived got.2 c.may-end.result c.may-end.ensures
+    ends_known stands nodes models c.args.number got.0 ((c.nodes_of.ensures got.0).0 got.1) c.args.state 0 c.in-Some.derived got.2 c.may_end.result c.may_end.ensures

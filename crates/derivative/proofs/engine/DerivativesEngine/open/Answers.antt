@@ -10,7 +10,7 @@ returns-in-Some g c =
     let got = c.in-Some.ensures in
     record {
       answer =
-          begin_some stands nodes models c.args.number got.0 ((c.nodes-of.ensures got.0).0 got.1)
+          begin_some stands nodes models c.args.number got.0 ((c.nodes_of.ensures got.0).0 got.1)
           (λ a. (g.L.Alphabet.sample a, g.met.L.Alphabet.sampled a));
       real = λ w h. in_each (λ k. stands) g.L.Alphabet.real (λ k a x r. g.met.L.Alphabet.stands_for_real a x r) h.0 0 w h.2;
     }

@@ -5,6 +5,6 @@ use Rattle.drafts.specs.Drafted.{found_in}
 use Rattle.drafts.specs.Questions.{ask_all, first_no, judge_items, or_ask}
 use Rattle.drafts.proofs.draft.Draft.empty.Goals as goal
 
-pub invariant-of-result : goal.invariant-of-result
+pub invariant_of-result : goal.invariant_of-result
 unfolding turns item found_in ask_all first_no judge_items or_ask
-invariant-of-result c = (refl, (refl, (refl, (refl, (refl, tt)))))
+invariant_of-result c = (refl, (refl, (refl, (refl, (refl, tt)))))

@@ -8,8 +8,8 @@ use Rattle.drafts.proofs.Counting.{length_models}
 use Rattle.drafts.proofs.Filling.{filled_front, filled_room}
 use Rattle.drafts.proofs.draft.Draft.models.Goals as goal
 
-pub slice-bounds-result-end : goal.slice-bounds-result-end
-slice-bounds-result-end c =
+pub slice_bounds-result-end : goal.slice_bounds-result-end
+slice_bounds-result-end c =
     let text = c.args.self.now.text.now in
     let es = text_models text in
     filled_room zero_model (length c.args.self.now.models.now) (runs_from 0 es) c.args.self.now.models.now c.args.self.now.count c.args.self.now.placed (c.args.self.now.counted ∙ sym (length_models (declared_names (declarations text)) (declarations text)) ∙ sym (length_runs 0 es))

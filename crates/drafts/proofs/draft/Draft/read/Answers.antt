@@ -6,8 +6,8 @@ use Rattle.drafts.proofs.Accepting.{enough_room}
 use Rattle.drafts.proofs.TablesRead.{tells_yes, tells_no}
 use Rattle.drafts.proofs.draft.Draft.read.Goals as goal
 
-pub invariant-of-self : goal.invariant-of-self
-invariant-of-self c =
+pub invariant_of-self : goal.invariant_of-self
+invariant_of-self c =
     let told = c.in-Ok.ensures in
     let room = room_of c.replace-nodes.result.now c.replace-models.result.now c.replace-entries.result.now in (
       enough_room room c.args.text.now (ap is_accepted told.0),
@@ -22,7 +22,7 @@ returns-in-Ok c =
     let e : c.replace-entries.result.now ≡ c.args.blank.now.entries.now = search rules in
     record {
       answer = tells_yes c.args.text.now c.args.blank.now.nodes.now c.replace-nodes.result.now c.args.blank.now.models.now c.replace-models.result.now c.args.blank.now.entries.now c.replace-entries.result.now n m e (declarations c.args.text.now) told.0;
-      made = (refl, c.read-into.auto.nodes ∙ ap length n, c.read-into.auto.models ∙ ap length m, c.read-into.auto.entries ∙ ap length e);
+      made = (refl, c.read_into.auto.nodes ∙ ap length n, c.read_into.auto.models ∙ ap length m, c.read_into.auto.entries ∙ ap length e);
       left = search rules;
       law = grammar_is_read;
     }

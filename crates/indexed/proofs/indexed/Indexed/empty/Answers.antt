@@ -1,8 +1,8 @@
 use Rattle.std.proofs.Common.{sym, ◌∙◌}
 use Rattle.indexed.proofs.indexed.Indexed.empty.Goals as goal
 
-pub invariant-of-result : goal.invariant-of-result
-invariant-of-result c =
+pub invariant_of-result : goal.invariant_of-result
+invariant_of-result c =
     let sealed = c.empty-sealed.ensures.tables in
     let table = c.empty-table.ensures.tables in
     (∣ table.0 ∙ sym sealed.0 ∣₁, (∣ table.1 ∙ sym sealed.1 ∣₁, tt))

@@ -5,8 +5,8 @@ use Rattle.positions.proofs.Entries.{rows_followed, rows_blank, atoms_placed, at
 use Rattle.positions.proofs.Marking.{follow_rows}
 use Rattle.positions.proofs.table.FollowTable.fill.Goals as goal
 
-pub invariant-of-self : goal.invariant-of-self
-invariant-of-self g c =
+pub invariant_of-self : goal.invariant_of-self
+invariant_of-self g c =
     let nodes = c.args.nodes.now in
     let models = c.args.models.now in
     let rows = c.replace-rows.result.now in
@@ -15,7 +15,7 @@ invariant-of-self g c =
     let is_atoms : atoms ≡ c.write.new.self.atoms.now = ap (λ r. r.now) c.replace-atoms.ensures.value in
     let all-rows = subst (Rows nodes models) (sym is_rows) c.write.ensures.rows in
     let all-atoms = subst (Atoms nodes models) (sym is_atoms) c.write.ensures.atoms in
-    let has = c.if-not-has-room.ensures in
+    let has = c.if-not-has_room.ensures in
     let wide : 64 * length models ≤ length rows = omega (arith, has.0, ap length is_rows, c.write.ensures.room.0) in
     let roomy : 64 * length models ≤ length atoms = omega (arith, has.1, ap length is_atoms, c.write.ensures.room.1) in
     (wide, (roomy, (rows_followed nodes models rows all-rows wide, (rows_blank nodes models rows all-rows, (atoms_placed nodes models atoms all-atoms roomy, (atoms_spare nodes models atoms all-atoms roomy, tt))))))
@@ -29,10 +29,10 @@ returns g c =
     let is_rows : rows ≡ c.write.new.self.rows.now = ap (λ r. r.now) c.replace-rows.ensures.value in
     let is_atoms : atoms ≡ c.write.new.self.atoms.now = ap (λ r. r.now) c.replace-atoms.ensures.value in
     let all-rows = subst (Rows nodes models) (sym is_rows) c.write.ensures.rows in
-    let has = c.if-not-has-room.ensures in
+    let has = c.if-not-has_room.ensures in
     let wide : 64 * length models ≤ length rows = omega (arith, has.0, ap length is_rows, c.write.ensures.room.0) in
     record {
-      answer = c.if-not-has-room.ensures;
+      answer = c.if-not-has_room.ensures;
       made = (
         follow_rows g.L.Alphabet.stands (λ a. (g.L.Alphabet.sample a, g.met.L.Alphabet.sampled a)) nodes models rows (rows_followed nodes models rows all-rows wide) (rows_blank nodes models rows all-rows),
         ap length is_rows ∙ c.write.ensures.room.0,

@@ -1,5 +1,5 @@
 use Rattle.sealed.proofs.Checking.{none_sealable}
 use Rattle.sealed.proofs.sealed.Sealed.empty.Goals as goal
 
-pub invariant-of-result : goal.invariant-of-result
-invariant-of-result c = (∣ none_sealable ∣₁, tt)
+pub invariant_of-result : goal.invariant_of-result
+invariant_of-result c = (∣ none_sealable ∣₁, tt)

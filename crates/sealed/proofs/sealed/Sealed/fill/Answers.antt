@@ -2,12 +2,12 @@ use Rattle.engine.specs.Atoms.{StandsFor}
 use Rattle.derivative.proofs.Stepping.{speaks}
 use Rattle.sealed.proofs.sealed.Sealed.fill.Goals as goal
 
-pub invariant-of-self : goal.invariant-of-self
-invariant-of-self c = (∣ c.in-ok-check.ensures ∣₁, tt)
+pub invariant_of-self : goal.invariant_of-self
+invariant_of-self c = (∣ c.in_ok-check.ensures ∣₁, tt)
 
 pub returns : goal.returns
 returns c = record {
-  answer = c.in-ok-check.ensures;
+  answer = c.in_ok-check.ensures;
   languages = speaks StandsFor c.args.nodes.now c.args.models.now;
   states = λ number state w. (λ h. h, λ h. h);
 }

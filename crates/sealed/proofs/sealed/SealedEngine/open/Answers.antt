@@ -8,6 +8,6 @@ pub returns-in-Some : goal.returns-in-Some
 returns-in-Some c =
     let got = c.in-Some.ensures in
     record {
-      answer = begin_some StandsFor c.args.self.now.nodes.now c.args.self.now.models.now c.args.number got.0 ((c.nodes-of.ensures got.0).0 got.1) content_alive;
+      answer = begin_some StandsFor c.args.self.now.nodes.now c.args.self.now.models.now c.args.number got.0 ((c.nodes_of.ensures got.0).0 got.1) content_alive;
       real = λ w h. all_real w;
     }

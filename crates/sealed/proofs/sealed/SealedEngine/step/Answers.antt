@@ -8,9 +8,9 @@ returns-then-next-eq0 c =
     let nodes = c.args.self.now.nodes.now in
     let models = c.args.self.now.models.now in
     let got = c.in-Some.ensures in
-    let coded = (c.nodes-of-nodes.ensures got.0).0 got.1 in
+    let coded = (c.nodes_of-nodes.ensures got.0).0 got.1 in
     step_none StandsFor nodes models c.args.number got.0 coded c.args.letter c.args.state c.reached-next.result
-    (steps StandsFor nodes models c.args.number got.0 coded c.nodes-of-nodes.result.now c.args.letter c.args.state c.readers.result got.1 c.readers.ensures c.in-Some.derived got.2 c.reached-next.result c.reached-next.ensures)
+    (steps StandsFor nodes models c.args.number got.0 coded c.nodes_of-nodes.result.now c.args.letter c.args.state c.readers.result got.1 c.readers.ensures c.in-Some.derived got.2 c.reached-next.result c.reached-next.ensures)
     c.if-next-eq0.true
 
 pub returns-else-next-eq0 : goal.returns-else-next-eq0
@@ -18,9 +18,9 @@ returns-else-next-eq0 c =
     let nodes = c.args.self.now.nodes.now in
     let models = c.args.self.now.models.now in
     let got = c.in-Some.ensures in
-    let coded = (c.nodes-of-nodes.ensures got.0).0 got.1 in
+    let coded = (c.nodes_of-nodes.ensures got.0).0 got.1 in
     step_some StandsFor nodes models c.args.number got.0 coded content_alive c.args.letter c.args.state c.reached-next.result
-    (steps StandsFor nodes models c.args.number got.0 coded c.nodes-of-nodes.result.now c.args.letter c.args.state c.readers.result got.1 c.readers.ensures c.in-Some.derived got.2 c.reached-next.result c.reached-next.ensures)
-    (steps_in StandsFor nodes models c.args.number got.0 coded c.nodes-of-nodes.result.now c.args.letter c.args.state c.readers.result got.1 c.readers.ensures c.in-Some.derived got.2 c.reached-next.result c.reached-next.ensures)
+    (steps StandsFor nodes models c.args.number got.0 coded c.nodes_of-nodes.result.now c.args.letter c.args.state c.readers.result got.1 c.readers.ensures c.in-Some.derived got.2 c.reached-next.result c.reached-next.ensures)
+    (steps_in StandsFor nodes models c.args.number got.0 coded c.nodes_of-nodes.result.now c.args.letter c.args.state c.readers.result got.1 c.readers.ensures c.in-Some.derived got.2 c.reached-next.result c.reached-next.ensures)
     c.reached-next.type-inv
     c.if-next-eq0.false

@@ -11,7 +11,7 @@ returns-in-Begun-Start g c =
     let V = g.V.Engine.language c.args.self.now.value.now in
     let VR = g.V.Engine.rest c.args.self.now.value.now in
     let s = c.args.self.now.state in
-    subst (λ e. Asked C CR V VR s (said e) c.ask-root.result) (sym c.in-Begun-Start.is-1) (c.ask-root.ensures c.in-Begun-Start.is-0)
+    subst (λ e. Asked C CR V VR s (said e) c.ask_root.result) (sym c.in-Begun-Start.is-1) (c.ask_root.ensures c.in-Begun-Start.is-0)
 
 pub returns-in-Open-Start : goal.returns-in-Open-Start
 returns-in-Open-Start g c =
@@ -20,7 +20,7 @@ returns-in-Open-Start g c =
     let V = g.V.Engine.language c.args.self.now.value.now in
     let VR = g.V.Engine.rest c.args.self.now.value.now in
     let s = c.args.self.now.state in
-    subst (λ e. Asked C CR V VR s (said e) c.ask-child.result) (sym c.in-Open-Start.is-1) (c.ask-child.ensures c.in-Open-Start.is-0)
+    subst (λ e. Asked C CR V VR s (said e) c.ask_child.result) (sym c.in-Open-Start.is-1) (c.ask_child.ensures c.in-Open-Start.is-0)
 
 pub returns-in-Open-Text : goal.returns-in-Open-Text
 returns-in-Open-Text g c =
@@ -29,7 +29,7 @@ returns-in-Open-Text g c =
     let V = g.V.Engine.language c.args.self.now.value.now in
     let VR = g.V.Engine.rest c.args.self.now.value.now in
     let s = c.args.self.now.state in
-    subst (λ e. Asked C CR V VR s (said e) c.ask-text.result) (sym c.in-Open-Text.is-1) (c.ask-text.ensures c.in-Open-Text.is-0)
+    subst (λ e. Asked C CR V VR s (said e) c.ask_text.result) (sym c.in-Open-Text.is-1) (c.ask_text.ensures c.in-Open-Text.is-0)
 
 pub returns-in-Open-End : goal.returns-in-Open-End
 returns-in-Open-End g c =
@@ -38,7 +38,7 @@ returns-in-Open-End g c =
     let V = g.V.Engine.language c.args.self.now.value.now in
     let VR = g.V.Engine.rest c.args.self.now.value.now in
     let s = c.args.self.now.state in
-    subst (λ e. Asked C CR V VR s (said e) c.ask-end.result) (sym c.in-Open-End.is-1) (c.ask-end.ensures c.in-Open-End.is-0)
+    subst (λ e. Asked C CR V VR s (said e) c.ask_end.result) (sym c.in-Open-End.is-1) (c.ask_end.ensures c.in-Open-End.is-0)
 
 pub returns-in-Ended-default : goal.returns-in-Ended-default
 returns-in-Ended-default g c calls st =

@@ -5,41 +5,41 @@ use Rattle.std.proofs.Common.{◌≡◌, arith}
 use Rattle.sheet.proofs.Steps.{has_top, child_offends, child_too_deep, child_too_many, child_right}
 use Rattle.sheet.proofs.sheet.Sheet.ask_child.Goals as goal
 
-pub returns-in-default-top : goal.returns-in-default-top
-returns-in-default-top g c is calls st =
+pub returns-in_default-top : goal.returns-in_default-top
+returns-in_default-top g c is calls st =
     let C = g.C.Engine.language c.args.self.now.content.now in
     let CR = g.C.Engine.rest c.args.self.now.content.now in
     let V = g.V.Engine.language c.args.self.now.value.now in
     let VR = g.V.Engine.rest c.args.self.now.value.now in
     let s = c.args.self.now.state in
-    has_top C CR V VR s calls (send (start c.args.number)) (refused 34) is st c.in-default-top.ensures
+    has_top C CR V VR s calls (send (start c.args.number)) (refused 34) is st c.in_default-top.ensures
 
-pub returns-in-default-read-letter : goal.returns-in-default-read-letter
-returns-in-default-read-letter g c is calls st =
+pub returns-in_default-read_letter : goal.returns-in_default-read_letter
+returns-in_default-read_letter g c is calls st =
     let C = g.C.Engine.language c.args.self.now.content.now in
     let CR = g.C.Engine.rest c.args.self.now.content.now in
     let V = g.V.Engine.language c.args.self.now.value.now in
     let VR = g.V.Engine.rest c.args.self.now.value.now in
     let s = c.args.self.now.state in
-    child_offends C CR V VR s calls c.in-Some-top.top is c.in-Some-top.ensures.2 st c.args.number c.in-Some.ensures.1.0 c.in-default-read-letter.ensures
+    child_offends C CR V VR s calls c.in-Some-top.top is c.in-Some-top.ensures.2 st c.args.number c.in-Some.ensures.1.0 c.in_default-read_letter.ensures
 
-pub returns-then-self-ge-MAX-DEPTH : goal.returns-then-self-ge-MAX-DEPTH
-returns-then-self-ge-MAX-DEPTH g c is calls st =
+pub returns-then-self-ge-MAX_DEPTH : goal.returns-then-self-ge-MAX_DEPTH
+returns-then-self-ge-MAX_DEPTH g c is calls st =
     let C = g.C.Engine.language c.args.self.now.content.now in
     let CR = g.C.Engine.rest c.args.self.now.content.now in
     let V = g.V.Engine.language c.args.self.now.value.now in
     let VR = g.V.Engine.rest c.args.self.now.value.now in
     let s = c.args.self.now.state in
-    child_too_deep C CR V VR s calls c.in-Some-top.top is c.in-Some-top.ensures.2 st c.args.number c.in-Some-read-letter.parent c.in-Some.child c.in-Some.ensures c.in-Some-read-letter.ensures (omega arith)
+    child_too_deep C CR V VR s calls c.in-Some-top.top is c.in-Some-top.ensures.2 st c.args.number c.in-Some-read_letter.parent c.in-Some.child c.in-Some.ensures c.in-Some-read_letter.ensures (omega arith)
 
-pub returns-then-self-ge-MAX-EVENTS : goal.returns-then-self-ge-MAX-EVENTS
-returns-then-self-ge-MAX-EVENTS g c is calls st =
+pub returns-then-self-ge-MAX_EVENTS : goal.returns-then-self-ge-MAX_EVENTS
+returns-then-self-ge-MAX_EVENTS g c is calls st =
     let C = g.C.Engine.language c.args.self.now.content.now in
     let CR = g.C.Engine.rest c.args.self.now.content.now in
     let V = g.V.Engine.language c.args.self.now.value.now in
     let VR = g.V.Engine.rest c.args.self.now.value.now in
     let s = c.args.self.now.state in
-    child_too_many C CR V VR s calls c.in-Some-top.top is c.in-Some-top.ensures.2 st c.args.number c.in-Some-read-letter.parent c.in-Some.child c.in-Some.ensures c.in-Some-read-letter.ensures (omega arith) (omega arith)
+    child_too_many C CR V VR s calls c.in-Some-top.top is c.in-Some-top.ensures.2 st c.args.number c.in-Some-read_letter.parent c.in-Some.child c.in-Some.ensures c.in-Some-read_letter.ensures (omega arith) (omega arith)
 
 pub returns : goal.returns
 returns g c is =
@@ -48,4 +48,4 @@ returns g c is =
     let V = g.V.Engine.language c.args.self.now.value.now in
     let VR = g.V.Engine.rest c.args.self.now.value.now in
     let s = c.args.self.now.state in
-    ((omega arith, (c.in-Some-top.ensures.0, omega arith)), λ calls st. child_right C CR V VR s calls c.in-Some-top.top is c.in-Some-top.ensures.2 st c.args.number c.in-Some-read-letter.parent c.in-Some.child c.in-Some.ensures c.in-Some-read-letter.ensures (omega arith) (omega arith))
+    ((omega arith, (c.in-Some-top.ensures.0, omega arith)), λ calls st. child_right C CR V VR s calls c.in-Some-top.top is c.in-Some-top.ensures.2 st c.args.number c.in-Some-read_letter.parent c.in-Some.child c.in-Some.ensures c.in-Some-read_letter.ensures (omega arith) (omega arith))

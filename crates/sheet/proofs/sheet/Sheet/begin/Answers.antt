@@ -11,8 +11,8 @@ returns g c =
     let s = c.args.self.now.state in
     record {
       moves = record {
-        right = λ calls st. (begin_right C CR V VR s calls c.args.root c.in-Fresh.is c.if-not-is-declared.ensures c.if-not-agrees.ensures st).0;
-        after = λ calls st. (begin_right C CR V VR s calls c.args.root c.in-Fresh.is c.if-not-is-declared.ensures c.if-not-agrees.ensures st).1;
+        right = λ calls st. (begin_right C CR V VR s calls c.args.root c.in-Fresh.is c.if-not-is_declared.ensures c.if-not-agrees.ensures st).0;
+        after = λ calls st. (begin_right C CR V VR s calls c.args.root c.in-Fresh.is c.if-not-is_declared.ensures c.if-not-agrees.ensures st).1;
         same = λ n e. let z : ◌≡◌ {A = ℕ} 0 1 = cc in absurd (omega arith);
       };
       content = refl;

@@ -15,7 +15,7 @@ returns g c calls st =
     let Told : ℕ × Bool → Type 0 = λ told. Underway calls × ExpectedNext C V calls told.0 told.1 in
     let right : Told c.match-self.set = elim c.match-self.branch [
       | in-Begun w ↦ subst Told (sym w.set-is) (expects_root C CR V VR s calls w.with.result w.in-Begun.is w.with.ensures.added w.with.ensures.others st)
-      | in-Open w ↦ subst Told (sym w.set-is) (open_underway C CR V VR s calls w.in-Open.is st, w.expect-inside.ensures w.in-Open.is calls st)
+      | in-Open w ↦ subst Told (sym w.set-is) (open_underway C CR V VR s calls w.in-Open.is st, w.expect_inside.ensures w.in-Open.is calls st)
       | in-Ended w ↦ subst Told (sym w.set-is) (expects_ended C CR V VR s calls w.in-Ended.is st)
     ] in
     (right.0, right.1, refl)

@@ -2,14 +2,14 @@ use Rattle.std.proofs.Common.{arith}
 use Rattle.sheet.proofs.Expecting.{expects_inside, expects_top}
 use Rattle.sheet.proofs.sheet.Sheet.expect_inside.Goals as goal
 
-pub returns-in-default : goal.returns-in-default
-returns-in-default g c is calls st =
+pub returns-in_default : goal.returns-in_default
+returns-in_default g c is calls st =
     let C = g.C.Engine.language c.args.self.now.content.now in
     let CR = g.C.Engine.rest c.args.self.now.content.now in
     let V = g.V.Engine.language c.args.self.now.value.now in
     let VR = g.V.Engine.rest c.args.self.now.value.now in
     let s = c.args.self.now.state in
-    expects_top C CR V VR s calls is st c.in-default.ensures
+    expects_top C CR V VR s calls is st c.in_default.ensures
 
 pub returns : goal.returns
 returns g c is calls st =
@@ -18,5 +18,5 @@ returns g c is calls st =
     let V = g.V.Engine.language c.args.self.now.value.now in
     let VR = g.V.Engine.rest c.args.self.now.value.now in
     let s = c.args.self.now.state in
-    expects_inside C CR V VR s calls c.in-Some.top is c.in-Some.ensures.2 st c.with-if-set.result c.children.result c.some-text-text.result c.is-complete.result
-    c.some-text-text.ensures (c.with-if-set.ensures.here (omega arith) c.children.ensures.text) c.children.ensures.starts c.with-if-set.ensures.others c.is-complete.ensures
+    expects_inside C CR V VR s calls c.in-Some.top is c.in-Some.ensures.2 st c.with_if-set.result c.children.result c.some_text-text.result c.is_complete.result
+    c.some_text-text.ensures (c.with_if-set.ensures.here (omega arith) c.children.ensures.text) c.children.ensures.starts c.with_if-set.ensures.others c.is_complete.ensures

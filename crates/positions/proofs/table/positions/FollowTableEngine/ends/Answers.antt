@@ -7,4 +7,4 @@ returns-in-Some g c =
     let self = c.args.self.now in
     let based = c.in-Some.ensures in
     ends_answer g.L.Alphabet.stands self.nodes.now self.models.now self.rows.now c.args.number c.in-Some.base based.0 based.2 self.followed self.blank
-    c.args.state c.union-of.result (Fits-lt-pow c.ranges.state) c.union-of.ensures
+    c.args.state c.union_of.result (Fits-lt-pow c.ranges.state) c.union_of.ensures
