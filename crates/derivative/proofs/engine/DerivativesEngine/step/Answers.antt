@@ -22,5 +22,5 @@ returns-else-next-eq0 g c =
     step_some stands nodes models c.args.number got.0 coded (λ a. (g.L.Alphabet.sample a, g.met.L.Alphabet.sampled a)) c.args.letter c.args.state c.reached-next.result
     (steps stands nodes models c.args.number got.0 coded c.nodes_of-nodes.result.now c.args.letter c.args.state c.readers.result got.1 c.readers.ensures c.in-Some.derived got.2 c.reached-next.result c.reached-next.ensures)
     (steps_in stands nodes models c.args.number got.0 coded c.nodes_of-nodes.result.now c.args.letter c.args.state c.readers.result got.1 c.readers.ensures c.in-Some.derived got.2 c.reached-next.result c.reached-next.ensures)
-    c.reached-next.type-inv
+    c.reached-next.type_inv
     c.if-next-eq0.false

@@ -22,5 +22,5 @@ returns-else-next-eq0 c =
     step_some StandsFor nodes models c.args.number got.0 coded content_alive c.args.letter c.args.state c.reached-next.result
     (steps StandsFor nodes models c.args.number got.0 coded c.nodes_of-nodes.result.now c.args.letter c.args.state c.readers.result got.1 c.readers.ensures c.in-Some.derived got.2 c.reached-next.result c.reached-next.ensures)
     (steps_in StandsFor nodes models c.args.number got.0 coded c.nodes_of-nodes.result.now c.args.letter c.args.state c.readers.result got.1 c.readers.ensures c.in-Some.derived got.2 c.reached-next.result c.reached-next.ensures)
-    c.reached-next.type-inv
+    c.reached-next.type_inv
     c.if-next-eq0.false

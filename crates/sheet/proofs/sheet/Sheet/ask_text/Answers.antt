@@ -32,7 +32,7 @@ returns-then-self-ge-MAX_EVENTS g c is calls st =
     let V = g.V.Engine.language c.args.self.now.value.now in
     let VR = g.V.Engine.rest c.args.self.now.value.now in
     let s = c.args.self.now.state in
-    text_too_many C CR V VR s calls c.in-Some.top is c.in-Some.ensures.2 st c.args.bytes.now c.in-Some-read_text.frame c.if-not-has_byte.ensures (each_byte _ (λ i. Fits-lt-pow (c.type-inv.bytes i))) c.in-Some-read_text.ensures (omega arith)
+    text_too_many C CR V VR s calls c.in-Some.top is c.in-Some.ensures.2 st c.args.bytes.now c.in-Some-read_text.frame c.if-not-has_byte.ensures (each_byte _ (λ i. Fits-lt-pow (c.type_inv.bytes i))) c.in-Some-read_text.ensures (omega arith)
 
 pub returns : goal.returns
 returns g c is =
@@ -41,4 +41,4 @@ returns g c is =
     let V = g.V.Engine.language c.args.self.now.value.now in
     let VR = g.V.Engine.rest c.args.self.now.value.now in
     let s = c.args.self.now.state in
-    ((omega arith, (c.in-Some.ensures.0, c.in-Some.ensures.1)), λ calls st. text_right C CR V VR s calls c.in-Some.top is c.in-Some.ensures.2 st c.args.bytes.now c.in-Some-read_text.frame c.if-not-has_byte.ensures (each_byte _ (λ i. Fits-lt-pow (c.type-inv.bytes i))) c.in-Some-read_text.ensures (omega arith))
+    ((omega arith, (c.in-Some.ensures.0, c.in-Some.ensures.1)), λ calls st. text_right C CR V VR s calls c.in-Some.top is c.in-Some.ensures.2 st c.args.bytes.now c.in-Some-read_text.frame c.if-not-has_byte.ensures (each_byte _ (λ i. Fits-lt-pow (c.type_inv.bytes i))) c.in-Some-read_text.ensures (omega arith))

@@ -16,5 +16,5 @@ returns-else-next-eq0 g c =
     let based = c.in_ok-base.ensures in
     step_something g.L.Alphabet.stands self.nodes.now self.models.now self.rows.now c.args.number c.in_ok-base.base based.0 based.2 self.followed self.blank
     (λ a. (g.L.Alphabet.sample a, g.met.L.Alphabet.sampled a)) self.atoms.now self.placed self.spare c.args.letter c.args.state c.union_of.result c.reading-next.result (Fits-lt-pow c.ranges.state) c.union_of.ensures c.reading-next.ensures
-    c.reading-next.type-inv
+    c.reading-next.type_inv
     c.if-next-eq0.false
