@@ -4,21 +4,21 @@ use Rattle.models.proofs.Folding.{turned_atom}
 use Rattle.models.proofs.Stacks.{join_short, takes_by, takes_none}
 use Rattle.models.proofs.evaluation.turn.Goals as goal
 
-pub returns-in_err-left : goal.returns-in_err-left
-returns-in_err-left g c d =
+pub returns-in_err-left-in-Seq : goal.returns-in_err-left-in-Seq
+returns-in_err-left-in-Seq g c d =
     let o = g.G.Algebra.operations c.args.algebra.now in
     let w = c.args.work.now in
-    takes_none d _ w _ c.from-residual.ensures
+    takes_none d _ w _ c.from_residual.ensures
     (ap (λ x. turned o (length w) x (stack d w c.args.reached)) c.in-Seq.is
-    ∙ join_short d o.both w c.args.reached.height c.args.reached.atoms (omega (arith, c.in_err-left.ensures.enough)))
+    ∙ join_short d o.both w c.args.reached.height c.args.reached.atoms (omega (arith, c.in_err-left-in-Seq.ensures.enough)))
 
-pub returns-in_err-left-2 : goal.returns-in_err-left-2
-returns-in_err-left-2 g c d =
+pub returns-in_err-left-in-Alt : goal.returns-in_err-left-in-Alt
+returns-in_err-left-in-Alt g c d =
     let o = g.G.Algebra.operations c.args.algebra.now in
     let w = c.args.work.now in
-    takes_none d _ w _ c.from-residual-in_err-left-2.ensures
+    takes_none d _ w _ c.from_residual-in_err-left-in-Alt.ensures
     (ap (λ x. turned o (length w) x (stack d w c.args.reached)) c.in-Alt.is
-    ∙ join_short d o.either w c.args.reached.height c.args.reached.atoms (omega (arith, c.in_err-left-2.ensures.enough)))
+    ∙ join_short d o.either w c.args.reached.height c.args.reached.atoms (omega (arith, c.in_err-left-in-Alt.ensures.enough)))
 
 pub returns-in-Empty : goal.returns-in-Empty
 returns-in-Empty g c d =
