@@ -13,7 +13,7 @@ returns-in_err-inner c =
     let names = numbered_names text c.args.entries.now in
     let t = drop c.args.at text in
     let none = children_bad t (particle_bad (read_group deepest t) c.in_err-inner.ensures) in
-    subst (λ r. ContentAt text names c.args.at (as_children (marked (read_group deepest t))) c.args.nodes.now c.args.used r c.group.new.nodes) (sym c.from-residual.ensures) none
+    subst (λ r. ContentAt text names c.args.at (as_children (marked (read_group deepest t))) c.args.nodes.now c.args.used r c.group.new.nodes) (sym c.from_residual.ensures) none
 
 pub returns : goal.returns
 returns c =

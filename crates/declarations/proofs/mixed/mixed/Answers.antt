@@ -59,7 +59,7 @@ returns-in_err-name c =
     let whole = starred (shut (run mixed_name [] (drop c.args.word text))) in
     let g = c.loop-nodes.invariant.0 c.args.nodes.now c.put.ensures in
     let none = mixed_no_name text names c.args.at whole c.args.nodes.now c.args.used c.loop-nodes.part c.loop-nodes.seen c.loop-nodes.nodes g here c.skip_blanks-here.ensures.behind c.skip_blanks-next.result (inside 124 text here signed) (sym c.if-byte_is.ensures) signed c.skip_blanks-next.ensures.behind c.in_err-name.ensures in
-    subst (λ r. ContentAt text names c.args.at whole c.args.nodes.now c.args.used r c.loop-nodes.nodes) (sym c.from-residual.ensures) none
+    subst (λ r. ContentAt text names c.args.at whole c.args.nodes.now c.args.used r c.loop-nodes.nodes) (sym c.from_residual.ensures) none
 
 pub loop-nodes-preserved : goal.loop-nodes-preserved
 loop-nodes-preserved c =

@@ -31,7 +31,7 @@ group-returns-in_err-part t c =
     let names = numbered_names text c.args.entries.now in
     let signed = sym c.if-not-byte_is.ensures in
     let none = group_bad text names c.args.at c.args.left c.args.nodes.now c.args.used c.skip_blanks-start.result (omega arith) signed (inside 40 text c.args.at signed) c.skip_blanks-start.ensures.behind c.in_err-part.ensures in
-    subst (λ r. ExpressionAt text names c.args.at (read_group c.args.left (drop c.args.at text)) c.args.nodes.now c.args.used r c.particle.new.nodes) (sym c.from-residual.ensures) none
+    subst (λ r. ExpressionAt text names c.args.at (read_group c.args.left (drop c.args.at text)) c.args.nodes.now c.args.used r c.particle.new.nodes) (sym c.from_residual.ensures) none
 
 pub group-loop-part-init : goal.group-loop-part-init
 group-loop-part-init t c =
@@ -93,7 +93,7 @@ group-returns-in_err-more t c =
     let at_sign = sym c.if-not-byte_is-2.ensures in
     let signed = ap (λ k. comes k (drop here text)) (sym c.sign.ensures) ∙ at_sign in
     let none = group_no_member text names c.args.at (read_group (c.args.left - 1)) c.byte_is-bar.result (read_group c.args.left (drop c.args.at text)) c.args.nodes.now c.args.used c.loop-part.part c.loop-part.nodes g here c.skip_blanks-here.ensures.behind c.skip_blanks-next.result (inside c.sign.result text here at_sign) (sym c.if-byte_is.ensures) signed c.skip_blanks-next.ensures.behind c.in_err-more.ensures in
-    subst (λ r. ExpressionAt text names c.args.at (read_group c.args.left (drop c.args.at text)) c.args.nodes.now c.args.used r c.particle-in-loop-part.new.nodes) (sym c.from-residual-in_err-more.ensures) none
+    subst (λ r. ExpressionAt text names c.args.at (read_group c.args.left (drop c.args.at text)) c.args.nodes.now c.args.used r c.particle-in-loop-part.new.nodes) (sym c.from_residual-in_err-more.ensures) none
 
 pub group-joined-part-requires : goal.group-joined-part-requires
 group-joined-part-requires t c =
@@ -125,7 +125,7 @@ particle-returns-in_err-part t c =
     let text = c.args.text.now in
     let names = numbered_names text c.args.entries.now in
     let none = particle_bad (read_unit c.args.left (drop c.args.at text)) c.in_err-part.ensures in
-    subst (λ r. ExpressionAt text names c.args.at (read_cp (read_group c.args.left) (drop c.args.at text)) c.args.nodes.now c.args.used r c.unit.new.nodes) (sym c.from-residual.ensures) none
+    subst (λ r. ExpressionAt text names c.args.at (read_cp (read_group c.args.left) (drop c.args.at text)) c.args.nodes.now c.args.used r c.unit.new.nodes) (sym c.from_residual.ensures) none
 
 pub particle-returns : goal.particle-returns
 particle-returns t c =

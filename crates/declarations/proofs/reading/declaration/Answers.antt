@@ -9,7 +9,7 @@ pub returns-in_err-body : goal.returns-in_err-body
 returns-in_err-body c =
     let text = c.args.text.now in
     let names = numbered_names text c.args.entries.now in
-    subst (λ r. WritesAt text names c.args.at c.args.nodes.now c.args.used r c.content.new.nodes) (sym c.from-residual-in_err-body.ensures)
+    subst (λ r. WritesAt text names c.args.at c.args.nodes.now c.args.used r c.content.new.nodes) (sym c.from_residual-in_err-body.ensures)
     (content_missing text names c.args.at c.args.nodes.now c.args.used c.in_ok-head.head c.in_ok-head.ensures c.in_err-body.ensures)
 
 pub returns-then-not-byte_is : goal.returns-then-not-byte_is

@@ -7,7 +7,7 @@ use Rattle.declarations.proofs.reading.opening.Goals as goal
 
 pub returns-in_err-word : goal.returns-in_err-word
 returns-in_err-word c =
-    subst (λ r. HeadAt c.args.text.now c.args.at r) (sym c.from-residual.ensures)
+    subst (λ r. HeadAt c.args.text.now c.args.at r) (sym c.from_residual.ensures)
     (no_word c.args.text.now c.args.at (c.in_err-word.ensures.answer (lit< tt)))
 
 pub returns-then-not-blank_at : goal.returns-then-not-blank_at
@@ -16,7 +16,7 @@ returns-then-not-blank_at c =
 
 pub returns-in_err-end : goal.returns-in_err-end
 returns-in_err-end c =
-    subst (λ r. HeadAt c.args.text.now c.args.at r) (sym c.from-residual-in_err-end.ensures)
+    subst (λ r. HeadAt c.args.text.now c.args.at r) (sym c.from_residual-in_err-end.ensures)
     (no_name c.args.text.now c.args.at c.in_ok-word.word (c.in_ok-word.ensures.answer (lit< tt)) c.skip_blanks-start.result (sym c.if-not-blank_at.ensures) c.skip_blanks-start.ensures.behind c.in_err-end.ensures.answer)
 
 pub returns-then-not-blank_at-2 : goal.returns-then-not-blank_at-2

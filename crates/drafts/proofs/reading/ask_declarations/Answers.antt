@@ -24,14 +24,14 @@ from_15 room found = (15, new_name room (declared_names found)) ∷ from_16 room
 pub returns-in_err-refuse_at : goal.returns-in_err-refuse_at
 returns-in_err-refuse_at c = λ found records listed.
     let room : Room = record { nodes = c.args.nodes; records = records } in
-    let p = err_from_is_err_and c.from-residual.result c.from-residual.ensures.1 in
+    let p = err_from_is_err_and c.from_residual.result c.from_residual.ensures.1 in
     subst (Tells (ask_all (later_questions room (declared_names found)) found)) (sym (p.1 ∙ ap Err p.2))
     (told_no question.Atoms (few_atoms room (declared_names found)) (from_15 room found) found c.first_no.result (c.first_no.ensures found listed tt) c.in_err-refuse_at.field-0.0 (sym c.refuse_at.ensures ∙ c.in_err-refuse_at.was))
 
 pub returns-in_err-refuse_at-2 : goal.returns-in_err-refuse_at-2
 returns-in_err-refuse_at-2 c = λ found records listed.
     let room : Room = record { nodes = c.args.nodes; records = records } in
-    let p = err_from_is_err_and c.from-residual-in_err-refuse_at-2.result c.from-residual-in_err-refuse_at-2.ensures.1 in
+    let p = err_from_is_err_and c.from_residual-in_err-refuse_at-2.result c.from_residual-in_err-refuse_at-2.ensures.1 in
     subst (Tells (ask_all (later_questions room (declared_names found)) found)) (sym (p.1 ∙ ap Err p.2))
     (told_yes question.Atoms (few_atoms room (declared_names found)) (from_15 room found) found c.first_no.result (c.first_no.ensures found listed tt) tt (sym c.refuse_at.ensures ∙ c.in_ok-refuse_at.was) (Err c.in_err-refuse_at-2.field-0.0)
     (told_no question.NewName (new_name room (declared_names found)) (from_16 room found) found c.first_no-2.result (c.first_no-2.ensures found listed tt) c.in_err-refuse_at-2.field-0.0 (sym c.refuse_at-2.ensures ∙ c.in_err-refuse_at-2.was)))
@@ -39,7 +39,7 @@ returns-in_err-refuse_at-2 c = λ found records listed.
 pub returns-in_err-refuse_at-3 : goal.returns-in_err-refuse_at-3
 returns-in_err-refuse_at-3 c = λ found records listed.
     let room : Room = record { nodes = c.args.nodes; records = records } in
-    let p = err_from_is_err_and c.from-residual-in_err-refuse_at-3.result c.from-residual-in_err-refuse_at-3.ensures.1 in
+    let p = err_from_is_err_and c.from_residual-in_err-refuse_at-3.result c.from_residual-in_err-refuse_at-3.ensures.1 in
     subst (Tells (ask_all (later_questions room (declared_names found)) found)) (sym (p.1 ∙ ap Err p.2))
     (told_yes question.Atoms (few_atoms room (declared_names found)) (from_15 room found) found c.first_no.result (c.first_no.ensures found listed tt) tt (sym c.refuse_at.ensures ∙ c.in_ok-refuse_at.was) (Err c.in_err-refuse_at-3.field-0.0)
     (told_yes question.NewName (new_name room (declared_names found)) (from_16 room found) found c.first_no-2.result (c.first_no-2.ensures found listed tt) tt (sym c.refuse_at-2.ensures ∙ c.in_ok-refuse_at-2.was) (Err c.in_err-refuse_at-3.field-0.0)
@@ -48,7 +48,7 @@ returns-in_err-refuse_at-3 c = λ found records listed.
 pub returns-in_err-refuse_at-4 : goal.returns-in_err-refuse_at-4
 returns-in_err-refuse_at-4 c = λ found records listed.
     let room : Room = record { nodes = c.args.nodes; records = records } in
-    let p = err_from_is_err_and c.from-residual-in_err-refuse_at-4.result c.from-residual-in_err-refuse_at-4.ensures.1 in
+    let p = err_from_is_err_and c.from_residual-in_err-refuse_at-4.result c.from_residual-in_err-refuse_at-4.ensures.1 in
     subst (Tells (ask_all (later_questions room (declared_names found)) found)) (sym (p.1 ∙ ap Err p.2))
     (told_yes question.Atoms (few_atoms room (declared_names found)) (from_15 room found) found c.first_no.result (c.first_no.ensures found listed tt) tt (sym c.refuse_at.ensures ∙ c.in_ok-refuse_at.was) (Err c.in_err-refuse_at-4.field-0.0)
     (told_yes question.NewName (new_name room (declared_names found)) (from_16 room found) found c.first_no-2.result (c.first_no-2.ensures found listed tt) tt (sym c.refuse_at-2.ensures ∙ c.in_ok-refuse_at-2.was) (Err c.in_err-refuse_at-4.field-0.0)

@@ -26,7 +26,7 @@ returns-in_err-ask_declarations c =
     let roomy : c.min-room.result ≤ length c.args.entries.now = omega arith in
     let few : length found.0.found ≤ c.min-room.result = omega (arith, found.3.counted) in
     let all = listed room c.args.text.now c.if-text-gt-MOST_BYTES.false found.0 found.1 found.2 c.min-room.result limit_is few c.args.entries.now c.note.new.entries c.in-Ok.noted found.3 roomy in
-    let p = err_from_is_err_and c.from-residual.result c.from-residual.ensures.1 in
+    let p = err_from_is_err_and c.from_residual.result c.from_residual.ensures.1 in
     subst (λ r. AskedText room c.args.text.now c.args.entries.now c.note.new.entries r) (sym (p.1 ∙ ap Err p.2))
     (refused_judged room c.args.text.now c.if-text-gt-MOST_BYTES.false found.0 found.1 found.2 c.min-room.result limit_is few c.in_err-ask_declarations.field-0.0 (c.in_err-ask_declarations.ensures found.0.found room.records all))
 

@@ -14,34 +14,34 @@ pub returns-in_err-start : goal.returns-in_err-start
 returns-in_err-start c =
     let text = c.args.text.now in
     let at = c.args.at in
-    no_line text at c.args.nodes.now c.args.used c.from-residual.result c.args.nodes.now c.from-residual.ensures (no_bracket text at (c.in_err-start.ensures.answer one))
+    no_line text at c.args.nodes.now c.args.used c.from_residual.result c.args.nodes.now c.from_residual.ensures (no_bracket text at (c.in_err-start.ensures.answer one))
 
 pub returns-in_err-name : goal.returns-in_err-name
 returns-in_err-name c =
     let text = c.args.text.now in
     let at = c.args.at in
-    no_line text at c.args.nodes.now c.args.used c.from-residual-in_err-name.result c.args.nodes.now c.from-residual-in_err-name.ensures
+    no_line text at c.args.nodes.now c.args.used c.from_residual-in_err-name.result c.args.nodes.now c.from_residual-in_err-name.ensures
     (no_name text at c.in_ok-start.start (c.in_ok-start.ensures.answer one) c.in_err-name.ensures.answer)
 
 pub returns-in_err-shape : goal.returns-in_err-shape
 returns-in_err-shape c =
     let text = c.args.text.now in
     let at = c.args.at in
-    no_line text at c.args.nodes.now c.args.used c.from-residual-in_err-shape.result c.args.nodes.now c.from-residual-in_err-shape.ensures
+    no_line text at c.args.nodes.now c.args.used c.from_residual-in_err-shape.result c.args.nodes.now c.from_residual-in_err-shape.ensures
     (no_space text at c.in_ok-start.start (c.in_ok-start.ensures.answer one) c.in_ok-name.name c.in_ok-name.ensures.name (c.in_err-shape.ensures.answer one))
 
 pub returns-in_err-part : goal.returns-in_err-part
 returns-in_err-part c =
     let text = c.args.text.now in
     let at = c.args.at in
-    no_line text at c.args.nodes.now c.args.used c.from-residual-in_err-part.result c.expression.new.nodes c.from-residual-in_err-part.ensures
+    no_line text at c.args.nodes.now c.args.used c.from_residual-in_err-part.result c.expression.new.nodes c.from_residual-in_err-part.ensures
     (no_shape text at c.in_ok-start.start (c.in_ok-start.ensures.answer one) c.in_ok-name.name c.in_ok-name.ensures.name c.in_ok-shape.shape (c.in_ok-shape.ensures.answer one) c.in_err-part.ensures)
 
 pub returns-in_err-end : goal.returns-in_err-end
 returns-in_err-end c =
     let text = c.args.text.now in
     let at = c.args.at in
-    no_line text at c.args.nodes.now c.args.used c.from-residual-in_err-end.result c.expression.new.nodes c.from-residual-in_err-end.ensures
+    no_line text at c.args.nodes.now c.args.used c.from_residual-in_err-end.result c.expression.new.nodes c.from_residual-in_err-end.ensures
     (no_end text at c.in_ok-start.start (c.in_ok-start.ensures.answer one) c.in_ok-name.name c.in_ok-name.ensures.name c.in_ok-shape.shape (c.in_ok-shape.ensures.answer one) c.args.nodes.now c.args.used c.in_ok-part.part c.expression.new.nodes c.in_ok-part.ensures (c.in_err-end.ensures.answer two))
 
 pub returns : goal.returns

@@ -16,14 +16,14 @@ expression-returns-then-left-eq0 t c = none_left c.args.left (drop c.args.at c.a
 pub expression-returns-in_err-opened : goal.expression-returns-in_err-opened
 expression-returns-in_err-opened t c =
     let front = drop c.args.at c.args.text.now in
-    expression_none c.args.text.now c.args.at c.args.nodes.now c.args.used (read_expression c.args.left front) c.from-residual.result c.args.nodes.now c.from-residual.ensures
+    expression_none c.args.text.now c.args.at c.args.nodes.now c.args.used (read_expression c.args.left front) c.from_residual.result c.args.nodes.now c.from_residual.ensures
     (some_left c.args.left front c.if-left-eq0.false ∙ c.in_err-opened.ensures (read_expression (c.args.left - 1)))
 
 pub expression-returns-in_err-ranged : goal.expression-returns-in_err-ranged
 expression-returns-in_err-ranged t c =
     let text = c.args.text.now in
     let opened = c.in_ok-opened.opened in
-    expression_none text c.args.at c.args.nodes.now c.args.used (read_expression c.args.left (drop c.args.at text)) c.from-residual-in_err-ranged.result c.args.nodes.now c.from-residual-in_err-ranged.ensures
+    expression_none text c.args.at c.args.nodes.now c.args.used (read_expression c.args.left (drop c.args.at text)) c.from_residual-in_err-ranged.result c.args.nodes.now c.from_residual-in_err-ranged.ensures
     (reads_opened text c.args.at c.args.left opened Range c.if-left-eq0.false c.in_ok-opened.ensures c.in-Range.is ∙ c.in_err-ranged.ensures)
 
 pub expression-returns-in_ok-ranged : goal.expression-returns-in_ok-ranged
@@ -55,13 +55,13 @@ expression-returns-in-Marked t c =
 pub marked-returns-in_err-inner : goal.marked-returns-in_err-inner
 marked-returns-in_err-inner t c =
     let text = c.args.text.now in
-    expression_none text c.args.at c.args.nodes.now c.args.used (read_marked (read_expression c.args.left) (mark_of c.args.mark) (drop c.args.at text)) c.from-residual.result c.expression.new.nodes c.from-residual.ensures
+    expression_none text c.args.at c.args.nodes.now c.args.used (read_marked (read_expression c.args.left) (mark_of c.args.mark) (drop c.args.at text)) c.from_residual.result c.expression.new.nodes c.from_residual.ensures
     (no_inside text c.args.at c.args.left c.args.mark c.args.nodes.now c.args.used c.in_err-inner.ensures)
 
 pub marked-returns-in_err-end : goal.marked-returns-in_err-end
 marked-returns-in_err-end t c =
     let text = c.args.text.now in
-    expression_none text c.args.at c.args.nodes.now c.args.used (read_marked (read_expression c.args.left) (mark_of c.args.mark) (drop c.args.at text)) c.from-residual-in_err-end.result c.expression.new.nodes c.from-residual-in_err-end.ensures
+    expression_none text c.args.at c.args.nodes.now c.args.used (read_marked (read_expression c.args.left) (mark_of c.args.mark) (drop c.args.at text)) c.from_residual-in_err-end.result c.expression.new.nodes c.from_residual-in_err-end.ensures
     (not_shut text c.args.at c.args.left c.args.mark c.args.nodes.now c.args.used c.in_ok-inner.inner c.expression.new.nodes c.in_ok-inner.ensures (c.in_err-end.ensures.answer one))
 
 pub marked-returns : goal.marked-returns
@@ -74,19 +74,19 @@ marked-returns t c =
 pub members-returns-in_err-first : goal.members-returns-in_err-first
 members-returns-in_err-first t c =
     let text = c.args.text.now in
-    expression_none text c.args.at c.args.nodes.now c.args.used (read_members (read_expression c.args.left) (joint_of c.args.joint) (drop c.args.at text)) c.from-residual.result c.expression.new.nodes c.from-residual.ensures
+    expression_none text c.args.at c.args.nodes.now c.args.used (read_members (read_expression c.args.left) (joint_of c.args.joint) (drop c.args.at text)) c.from_residual.result c.expression.new.nodes c.from_residual.ensures
     (no_first text c.args.at c.args.left c.args.joint c.args.nodes.now c.args.used c.in_err-first.ensures)
 
 pub members-returns-in_err-space : goal.members-returns-in_err-space
 members-returns-in_err-space t c =
     let text = c.args.text.now in
-    expression_none text c.args.at c.args.nodes.now c.args.used (read_members (read_expression c.args.left) (joint_of c.args.joint) (drop c.args.at text)) c.from-residual-in_err-space.result c.expression.new.nodes c.from-residual-in_err-space.ensures
+    expression_none text c.args.at c.args.nodes.now c.args.used (read_members (read_expression c.args.left) (joint_of c.args.joint) (drop c.args.at text)) c.from_residual-in_err-space.result c.expression.new.nodes c.from_residual-in_err-space.ensures
     (one_alone text c.args.at c.args.left c.args.joint c.args.nodes.now c.args.used c.in_ok-first.first c.expression.new.nodes c.in_ok-first.ensures (c.in_err-space.ensures.answer one))
 
 pub members-returns-in_err-second : goal.members-returns-in_err-second
 members-returns-in_err-second t c =
     let text = c.args.text.now in
-    expression_none text c.args.at c.args.nodes.now c.args.used (read_members (read_expression c.args.left) (joint_of c.args.joint) (drop c.args.at text)) c.from-residual-in_err-second.result c.expression-2.new.nodes c.from-residual-in_err-second.ensures
+    expression_none text c.args.at c.args.nodes.now c.args.used (read_members (read_expression c.args.left) (joint_of c.args.joint) (drop c.args.at text)) c.from_residual-in_err-second.result c.expression-2.new.nodes c.from_residual-in_err-second.ensures
     (no_second text c.args.at c.args.left c.args.joint c.args.nodes.now c.args.used c.in_ok-first.first c.expression.new.nodes c.in_ok-first.ensures c.in_ok-space.space (c.in_ok-space.ensures.answer one) c.in_err-second.ensures)
 
 pub members-joined-two-requires : goal.members-joined-two-requires
@@ -163,7 +163,7 @@ pub more_members-returns-in_err-more : goal.more_members-returns-in_err-more
 more_members-returns-in_err-more t c at e rest table p =
     let text = c.args.text.now in
     let whole = read_more c.args.left (joint_of c.args.joint) e rest in
-    expression_none text at table c.args.used whole c.from-residual.result c.expression.new.nodes c.from-residual.ensures
+    expression_none text at table c.args.used whole c.from_residual.result c.expression.new.nodes c.from_residual.ensures
     (list_no_member text at c.args.left c.args.joint whole table c.args.used c.loop-joint.part c.loop-joint.nodes (c.loop-joint.invariant.0 at e rest table p) (sym c.if-byte_is.ensures) (sym c.if-not-byte_is.ensures) c.in_err-more.ensures)
 
 pub more_members-joined-part-requires : goal.more_members-joined-part-requires

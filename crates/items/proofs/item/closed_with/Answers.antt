@@ -9,7 +9,7 @@ pub returns-in_err-end : goal.returns-in_err-end
 returns-in_err-end c some =
     let text = c.args.text.now in
     let f = word c.args.word.now (drop c.args.at text) in
-    subst (ItemOf text c.args.at (closed_with (said text c.args.kind) f)) (sym c.from-residual.ensures)
+    subst (ItemOf text c.args.at (closed_with (said text c.args.kind) f)) (sym c.from_residual.ensures)
     (closed_none text c.args.at (said text c.args.kind) f (c.in_err-end.ensures.answer some))
 
 pub returns : goal.returns

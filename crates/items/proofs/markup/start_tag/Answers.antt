@@ -9,7 +9,7 @@ pub returns-in_err-start : goal.returns-in_err-start
 returns-in_err-start c =
     let text = c.args.text.now in
     let f = word (codes "<") (drop c.args.at text) in
-    subst (ItemOf text c.args.at (start_opened f)) (sym c.from-residual.ensures)
+    subst (ItemOf text c.args.at (start_opened f)) (sym c.from_residual.ensures)
     (start_unopened text c.args.at f (c.in_err-start.ensures.answer (lit< tt)))
 
 pub returns : goal.returns

@@ -9,7 +9,7 @@ pub returns-in_err-end : goal.returns-in_err-end
 returns-in_err-end c =
     let text = c.args.text.now in
     let f = read_name (drop c.args.start text) in
-    subst (ItemOf text c.args.start (start_named f)) (sym c.from-residual.ensures)
+    subst (ItemOf text c.args.start (start_named f)) (sym c.from_residual.ensures)
     (start_unnamed text c.args.start f c.in_err-end.ensures.answer)
 
 pub returns : goal.returns

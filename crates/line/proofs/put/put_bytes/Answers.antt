@@ -11,8 +11,8 @@ returns-in_err-next c =
     let out = c.args.out.now in
     let less : length out < c.args.at + length bytes = omega (arith, c.in_err-next.ensures) in
     record {
-      written = subst (Put bytes out c.args.at out) (sym c.from-residual.ensures) (short less);
-      same = subst (Kept out out) (sym c.from-residual.ensures) refl;
+      written = subst (Put bytes out c.args.at out) (sym c.from_residual.ensures) (short less);
+      same = subst (Kept out out) (sym c.from_residual.ensures) refl;
     }
 
 pub returns-then-next-out : goal.returns-then-next-out

@@ -6,11 +6,11 @@ use Rattle.line.proofs.writing.put_pass.Goals as goal
 
 pub returns-in_err-behind_events : goal.returns-in_err-behind_events
 returns-in_err-behind_events c =
-    no_room (verbatim (codes "] [bytes ") ∷ decimal c.args.bytes ∷ line_end ∷ []) c.from-residual.ensures c.in_err-behind_events.ensures
+    no_room (verbatim (codes "] [bytes ") ∷ decimal c.args.bytes ∷ line_end ∷ []) c.from_residual.ensures c.in_err-behind_events.ensures
 
 pub returns-in_err-behind_bytes : goal.returns-in_err-behind_bytes
 returns-in_err-behind_bytes c =
-    no_room (line_end ∷ []) c.from-residual-in_err-behind_bytes.ensures
+    no_room (line_end ∷ []) c.from_residual-in_err-behind_bytes.ensures
     (and_then c.in_ok-behind_events.ensures c.in_err-behind_bytes.ensures)
 
 pub returns : goal.returns

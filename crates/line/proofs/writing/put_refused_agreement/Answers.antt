@@ -6,12 +6,12 @@ use Rattle.line.proofs.writing.put_refused_agreement.Goals as goal
 
 pub returns-in_err-behind_layer : goal.returns-in_err-behind_layer
 returns-in_err-behind_layer c =
-    no_room (verbatim (codes "] [byte ") ∷ decimal c.args.byte ∷ line_end ∷ []) c.from-residual.ensures
+    no_room (verbatim (codes "] [byte ") ∷ decimal c.args.byte ∷ line_end ∷ []) c.from_residual.ensures
     (worded c.word.ensures c.in_err-behind_layer.ensures)
 
 pub returns-in_err-behind_byte : goal.returns-in_err-behind_byte
 returns-in_err-behind_byte c =
-    no_room (line_end ∷ []) c.from-residual-in_err-behind_byte.ensures
+    no_room (line_end ∷ []) c.from_residual-in_err-behind_byte.ensures
     (and_then (worded c.word.ensures c.in_ok-behind_layer.ensures) c.in_err-behind_byte.ensures)
 
 pub returns : goal.returns

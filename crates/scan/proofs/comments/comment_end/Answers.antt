@@ -6,7 +6,7 @@ use Rattle.scan.proofs.comments.comment_end.Goals as goal
 
 pub returns-in_err-inside : goal.returns-in_err-inside
 returns-in_err-inside c =
-    subst (EndOf c.args.text.now c.args.at (read_comment (drop c.args.at c.args.text.now))) (sym c.from-residual.ensures)
+    subst (EndOf c.args.text.now c.args.at (read_comment (drop c.args.at c.args.text.now))) (sym c.from_residual.ensures)
     (unopened c.args.text.now c.args.at (word (codes "<!--") (drop c.args.at c.args.text.now)) (c.in_err-inside.ensures.answer (lit< tt)))
 
 pub returns : goal.returns
