@@ -1,22 +1,19 @@
-// Making a derivative engine: the promise of its languages. `meaning` is what the engine interface's
-// ghost members are for this engine.
+// Making a derivative engine: the promise of its languages.
 
-ghost use mir.Syntax.{given};
-ghost use Rattle.derivative.specs.contracts.engine.DerivativesEngine.TheImpl.{ghosts as meaning};
 ghost use Rattle.engine.specs.Languages.{Same};
 ghost use Rattle.models.specs.Tables.{ModelRest, Speaks};
 ghost use Rattle.std.specs.Prelude.{ℕ};
 
 use super::Derivatives;
-use engine::Alphabet;
+use engine::{Alphabet, Engine};
 use models::{Model, Node};
 
 impl<'n, 'm, L: Alphabet> Derivatives<'n, 'm, L> {
     // The engine over a node table and the records of its models. Its languages are those that they code,
     // and a state is the set of the atoms that may have been read last.
     pub fn over(nodes: &'n [Node<L::Atom>], models: &'m [Model]) -> Derivatives<'n, 'm, L>
-        ensures languages { Speaks L.Alphabet.stands nodes.now models.now ((meaning L.row L.Atom.row L.Alphabet (given 0)).language result) }
-        ensures states { (number state : ℕ) → Same ((meaning L.row L.Atom.row L.Alphabet (given 0)).rest result number state) (ModelRest L.Alphabet.stands nodes.now models.now number state) }
+        ensures languages { Speaks L.Alphabet.stands nodes.now models.now (⟦<Derivatives<'n, 'm, L> as Engine>⟧.language result) }
+        ensures states { (number state : ℕ) → Same (⟦<Derivatives<'n, 'm, L> as Engine>⟧.rest result number state) (ModelRest L.Alphabet.stands nodes.now models.now number state) }
     {
         Derivatives { nodes, models }
     }

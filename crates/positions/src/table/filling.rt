@@ -2,15 +2,13 @@
 
 ghost use Rattle.std.specs.Prelude.{◌≡◌, ℕ, ◌*◌, ◌/◌, ◌<◌, ◌≤◌, [], length, replicate, Ok, Err};
 ghost use Rattle.models.specs.Tables.{ModelRest, Speaks};
-ghost use Rattle.positions.specs.contracts.table.positions.FollowTableEngine.TheImpl.{ghosts as meaning};
-ghost use mir.Syntax.{given};
 ghost use Rattle.models.specs.declared.node.Node.TheVariants.{Unused};
 ghost use Rattle.positions.specs.Following.{Atoms, FollowRows, HasRoom, Rows};
 ghost use Rattle.engine.specs.Languages.{Decides, Same};
 
 use super::super::rows::{write_atoms, write_rows};
 use super::FollowTable;
-use engine::Alphabet;
+use engine::{Alphabet, Engine};
 use models::{Model, Node, clear};
 use std::mem::replace;
 
@@ -79,8 +77,8 @@ impl<'n, 'm, 'r, 'a, L: Alphabet> FollowTable<'n, 'm, 'r, 'a, L> {
         ensures answer { elim result [ Ok v ↦ HasRoom (length models.now) blank.old.rows.now blank.old.atoms.now | Err v ↦ (HasRoom (length models.now) blank.old.rows.now blank.old.atoms.now → ⊥) ] }
         ensures made { elim result [ Ok v ↦ FollowRows L.Alphabet.stands nodes.now models.now self.new.rows.now × (length self.new.rows.now ≡ length blank.old.rows.now) × Atoms nodes.now models.now self.new.atoms.now × (length self.new.atoms.now ≡ length blank.old.atoms.now) | Err v ↦ self.new ≡ self.old ] }
         ensures left { elim result [ Ok v ↦ (blank.new.rows.now ≡ []) × (blank.new.atoms.now ≡ []) | Err v ↦ (blank.new.rows.now ≡ replicate (length blank.old.rows.now) 0) × (blank.new.atoms.now ≡ replicate (length blank.old.atoms.now) Unused) ] }
-        ensures languages { elim result [ Ok v ↦ Speaks L.Alphabet.stands nodes.now models.now ((meaning L.row L.Atom.row L.Alphabet (given 0)).language self.new) | Err v ↦ Unit {0} ] }
-        ensures states { elim result [ Ok v ↦ ((number state : ℕ) → Same ((meaning L.row L.Atom.row L.Alphabet (given 0)).rest self.new number state) (ModelRest L.Alphabet.stands nodes.now models.now number state)) | Err v ↦ Unit {0} ] }
+        ensures languages { elim result [ Ok v ↦ Speaks L.Alphabet.stands nodes.now models.now (⟦<FollowTable<'n, 'm, 'r, 'a, L> as Engine>⟧.language self.new) | Err v ↦ Unit {0} ] }
+        ensures states { elim result [ Ok v ↦ ((number state : ℕ) → Same (⟦<FollowTable<'n, 'm, 'r, 'a, L> as Engine>⟧.rest self.new number state) (ModelRest L.Alphabet.stands nodes.now models.now number state)) | Err v ↦ Unit {0} ] }
     {
         if !blank.has_room(models.len()) {
             blank.clear();

@@ -1,22 +1,20 @@
-// Making sealed tables: the promise of their languages. `meaning` is what the engine interface's ghost
-// members are for this engine.
+// Making sealed tables: the promise of their languages.
 
 ghost use Rattle.std.specs.Prelude.{◌≡◌, ℕ, MatchResult};
 ghost use Rattle.engine.specs.Atoms.{StandsFor};
 ghost use Rattle.engine.specs.Languages.{Empty, Same};
 ghost use Rattle.models.specs.Tables.{ModelRest, Speaks};
 ghost use Rattle.sealed.specs.Checks.{Judged};
-ghost use Rattle.sealed.specs.contracts.sealed.SealedEngine.TheImpl.{ghosts as meaning};
 
 use super::super::questions::{Unsealed, check};
 use super::Sealed;
-use engine::ContentAtom;
+use engine::{ContentAtom, Engine};
 use models::{Model, Node};
 
 impl<'n, 'm> Sealed<'n, 'm> {
     // Tables without elements, which may always be sealed: no number has a word.
     pub fn empty() -> Sealed<'n, 'm>
-        ensures { (n : ℕ) → Empty (meaning.language result n) }
+        ensures { (n : ℕ) → Empty (⟦<Sealed<'n, 'm> as Engine>⟧.language result n) }
     {
         Sealed {
             nodes: &[],
@@ -32,8 +30,8 @@ impl<'n, 'm> Sealed<'n, 'm> {
         models: &'m [Model],
     ) -> Result<(), Unsealed>
         ensures answer { Judged nodes.now models.now result }
-        ensures languages { MatchResult result (λ _. Speaks StandsFor nodes.now models.now (meaning.language self.new)) (λ _. (n : ℕ) → Same (meaning.language self.new n) (meaning.language self.old n)) }
-        ensures states { MatchResult result (λ _. (number state : ℕ) → Same (meaning.rest self.new number state) (ModelRest StandsFor nodes.now models.now number state)) (λ _. (number state : ℕ) → Same (meaning.rest self.new number state) (meaning.rest self.old number state)) }
+        ensures languages { MatchResult result (λ _. Speaks StandsFor nodes.now models.now (⟦<Sealed<'n, 'm> as Engine>⟧.language self.new)) (λ _. (n : ℕ) → Same (⟦<Sealed<'n, 'm> as Engine>⟧.language self.new n) (⟦<Sealed<'n, 'm> as Engine>⟧.language self.old n)) }
+        ensures states { MatchResult result (λ _. (number state : ℕ) → Same (⟦<Sealed<'n, 'm> as Engine>⟧.rest self.new number state) (ModelRest StandsFor nodes.now models.now number state)) (λ _. (number state : ℕ) → Same (⟦<Sealed<'n, 'm> as Engine>⟧.rest self.new number state) (⟦<Sealed<'n, 'm> as Engine>⟧.rest self.old number state)) }
     {
         check(nodes, models)?;
         *self = Sealed { nodes, models };
