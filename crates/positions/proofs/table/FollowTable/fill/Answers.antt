@@ -18,7 +18,14 @@ invariant_of-self g c =
     let has = c.if-not-has_room.ensures in
     let wide : 64 * length models ≤ length rows = omega (arith, has.0, ap length is_rows, c.write.ensures.room.0) in
     let roomy : 64 * length models ≤ length atoms = omega (arith, has.1, ap length is_atoms, c.write.ensures.room.1) in
-    (wide, (roomy, (rows_followed nodes models rows all-rows wide, (rows_blank nodes models rows all-rows, (atoms_placed nodes models atoms all-atoms roomy, (atoms_spare nodes models atoms all-atoms roomy, tt))))))
+    record {
+      wide = wide;
+      roomy = roomy;
+      followed = rows_followed nodes models rows all-rows wide;
+      blank = rows_blank nodes models rows all-rows;
+      placed = atoms_placed nodes models atoms all-atoms roomy;
+      spare = atoms_spare nodes models atoms all-atoms roomy;
+    }
 
 pub returns : goal.returns
 returns g c =
