@@ -3,7 +3,7 @@ use Rattle.derivative.proofs.Stepping.{speaks}
 use Rattle.sealed.proofs.sealed.Sealed.fill.Goals as goal
 
 pub invariant_of-self : goal.invariant_of-self
-invariant_of-self c = (∣ c.in_ok-check.ensures ∣₁, tt)
+invariant_of-self c = record { checked = ∣ c.in_ok-check.ensures ∣₁ }
 
 pub returns : goal.returns
 returns c = record {
