@@ -3,7 +3,7 @@ use Rattle.std.proofs.Common.{◌≡◌, ℕ, zero, suc, ◌≤◌, Bool, true, 
 use mathlib.Core.List.{cons≢nil, nil≢cons}
 use borrow.Author.Tests.{eqb-false}
 use Rattle.engine.specs.Languages.{Answers, Decides, Each}
-use Rattle.engine.specs.Trees.{Forest, none, child, Fits, Valid, Declared, Plain, IsText, IsKnown, Contents, no_values}
+use Rattle.engine.specs.Trees.{Forest, none, child, Valid, Plain, IsText, IsKnown, Contents, no_values}
 use Rattle.engine.specs.declared.alphabet.Letter.{Letter}
 use Rattle.engine.specs.declared.alphabet.Letter.TheVariants.{Text, Element}
 use Rattle.bakery.specs.Contents.{Holds, sheet, shift, correction, lock, hours, closing}

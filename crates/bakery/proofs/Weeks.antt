@@ -4,7 +4,7 @@ use Rattle.engine.specs.Languages.{Inhabited}
 use Rattle.engine.specs.Trees.{none, piece, Valid}
 use Rattle.bakery.specs.Contents.{Holds, sheet, shift, correction, lock, hours}
 use Rattle.bakery.specs.Values.{IsDigit, Reads, left_out, written}
-use Rattle.bakery.specs.Week.{week, Week_valid}
+use Rattle.bakery.specs.Week.{Week_valid}
 use Rattle.bakery.proofs.ValueMoves.{all_real}
 
 -- Text counts only in hours.

@@ -1,5 +1,5 @@
 -- What the fold computes of an expression is what there is to know for a step.
-use Rattle.std.proofs.Common.{◌≡◌, ℕ, ◌+◌, ◌/◌, ◌%◌, ◌^◌, ◌<◌, ◌≤◌, Bool, true, false, ◌&&◌, ◌||◌, ◌⊎◌, List, [], ◌∷◌, ◌++◌, length, sym, refl, ap, ◌∙◌, subst, inl, inr, arith, eq-eqb, eqb-true}
+use Rattle.std.proofs.Common.{◌≡◌, ℕ, ◌+◌, ◌/◌, ◌%◌, ◌^◌, ◌≤◌, Bool, true, false, ◌&&◌, ◌||◌, ◌⊎◌, List, [], ◌++◌, sym, refl, subst, inl, inr, arith, eq-eqb, eqb-true}
 use lib.Bits.{bit_and, bit_or}
 use Rattle.models.specs.Expressions.{Exp, empty, atom, seq, alt, star, plus, option, atoms, done, In}
 use Rattle.models.specs.Folds.{value}

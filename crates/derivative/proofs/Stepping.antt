@@ -1,8 +1,7 @@
 -- The states of the engines: the beginning, a step by a letter, and the end of a word.
-use Rattle.std.proofs.Common.{◌≡◌, ℕ, ◌+◌, ◌^◌, ◌<◌, ◌≤◌, Bool, true, false, ◌&&◌, ◌||◌, ◌≢◌, ◌⊎◌, List, [], ◌∷◌, ◌++◌, Some, None, sym, refl, ap, ◌∙◌, subst, inl, inr, arith, eq-eqb, eqb-true}
-use lib.Bits.{bit_or}
-use Rattle.engine.specs.Languages.{Language, Empty, Inhabited, Same, Answers, Decides, residue}
-use Rattle.models.specs.Expressions.{Exp, atoms, In, Words}
+use Rattle.std.proofs.Common.{◌≡◌, ℕ, ◌+◌, ◌^◌, ◌<◌, ◌≤◌, Bool, true, false, ◌&&◌, ◌≢◌, ◌⊎◌, List, [], ◌∷◌, Some, sym, refl, ap, ◌∙◌, subst, inl, inr, arith}
+use Rattle.engine.specs.Languages.{Empty, Answers, Decides, residue}
+use Rattle.models.specs.Expressions.{Exp, atoms, Words}
 use Rattle.models.specs.Folds.{Codes, value}
 use Rattle.models.specs.Readers.{Numbered, atoms_of, Readers}
 use Rattle.models.specs.Rests.{Rest}
@@ -11,7 +10,7 @@ use Rattle.models.specs.Tables.{Coded, Left, ModelWords, ModelRest, Speaks}
 use Rattle.models.specs.declared.node.Model.{Model}
 use Rattle.models.specs.declared.node.Node.{Node}
 use Rattle.models.proofs.Bits.{has_or, has_or_l, has_or_r, has_none, has_power, has_guarded, guarded_has, some_bit}
-use Rattle.models.proofs.Derivation.{Iff, Derives}
+use Rattle.models.proofs.Derivation.{Iff}
 use Rattle.models.proofs.ModelTables.{coded_one}
 use Rattle.models.proofs.Numbering.{leaves, length_leaves, numbered_in, numbered_one, coded_leaves}
 use Rattle.models.proofs.Rests.{rest_mono, rest_or, rest_some, rest_guard, rest_live, word}

@@ -1,6 +1,6 @@
 -- Advancing a state by a word, letter by letter, answers for the derivative by the whole word.
-use Rattle.std.proofs.Common.{◌≡◌, ℕ, Bool, true, false, List, [], ◌∷◌, ◌++◌, Some, None, Option, sym, refl, ap, ◌∙◌, subst, append_assoc, append-nil, arith}
-use Rattle.engine.specs.Languages.{Language, Empty, Inhabited, Same, residue, Answers, Advanced, Decides}
+use Rattle.std.proofs.Common.{◌≡◌, ℕ, Bool, true, false, List, [], ◌∷◌, ◌++◌, Some, None, Option, sym, subst, append_assoc, append-nil, arith}
+use Rattle.engine.specs.Languages.{Language, Empty, Same, residue, Answers, Advanced, Decides}
 
 some_inj : {a b : ℕ} → ◌≡◌ {A = Option ℕ} (Some a) (Some b) → a ≡ b
 some_inj e = cc

@@ -1,7 +1,7 @@
 -- The nesting element's languages: the law of contents, and what its engine answers.
-use Rattle.std.proofs.Common.{◌≡◌, ℕ, ◌≤◌, List, [], ◌∷◌, ◌++◌, Some, None, Option, sym, refl, ◌∙◌, subst, arith}
-use Rattle.engine.specs.Languages.{Language, Inhabited, Same, residue, Answers, Each}
-use Rattle.engine.specs.Trees.{none, Contents, Declared, Plain, IsKnown, IsText}
+use Rattle.std.proofs.Common.{◌≡◌, ℕ, List, [], ◌∷◌, Some, None, Option, sym, refl, subst, arith}
+use Rattle.engine.specs.Languages.{residue, Answers, Each}
+use Rattle.engine.specs.Trees.{none, Contents, Declared, Plain, IsKnown}
 use Rattle.engine.specs.declared.alphabet.Letter.{Letter}
 use Rattle.engine.specs.declared.alphabet.Letter.TheVariants.{Text, Element}
 use Rattle.limits.specs.Nest.{Nested, Nests, NestLeft}

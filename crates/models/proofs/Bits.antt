@@ -1,9 +1,9 @@
 -- The bits of a number as a set: unions, intersections, sets of one number, and that only zero is empty.
-use Rattle.std.proofs.Common.{◌≡◌, ℕ, zero, suc, ◌+◌, ◌-◌, ◌*◌, ◌/◌, ◌%◌, ◌^◌, ◌<◌, ◌≤◌, Bool, true, false, ◌≢◌, ◌⊎◌, sym, refl, ap, ◌∙◌, subst, ap₂, inl, inr, one-mul, pow-suc, div-one, arith, lt-ltb}
+use Rattle.std.proofs.Common.{◌≡◌, ℕ, zero, suc, ◌+◌, ◌-◌, ◌/◌, ◌%◌, ◌^◌, ◌<◌, ◌≤◌, Bool, true, false, ◌≢◌, ◌⊎◌, sym, refl, ap, ◌∙◌, subst, ap₂, inl, inr, one-mul, pow-suc, div-one, arith, lt-ltb}
 use native.Mathlib.Decide.{dec_le}
 use native.Mathlib.Nat.{zero-div, div-eq_of_lt}
-use lib.Bits.{bit_and, bit_or, or_shr, and_shr, or_mod, and_mod, or_zero_l, or_zero_r, and_zero_l, and_zero_r}
-use Rattle.std.proofs.lemmas.Nat.{pow-add, shl-shr, shr-shr, pow_pos, pow_below, div_below}
+use lib.Bits.{bit_and, bit_or, or_shr, and_shr, or_mod, and_mod, or_zero_l, and_zero_l, and_zero_r}
+use Rattle.std.proofs.lemmas.Nat.{pow-add, shl-shr, shr-shr, pow_below, div_below}
 use Rattle.models.specs.Sets.{Has, singleton, guarded}
 
 digit : (n : ℕ) → (n % 2 ≡ 0) ⊎ (n % 2 ≡ 1)

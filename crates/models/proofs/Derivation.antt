@@ -1,7 +1,6 @@
 -- The derivative law: how nullable, may-end, first and next of an expression come from those of its parts.
-use Rattle.std.proofs.Common.{◌≡◌, ℕ, ◌+◌, ◌<◌, ◌≤◌, ◌⊎◌, List, [], ◌∷◌, ◌++◌, sym, refl, ap, ◌∙◌, subst, inl, inr, arith}
-use Rattle.engine.specs.Languages.{Language}
-use Rattle.models.specs.Expressions.{Exp, empty, atom, seq, alt, star, plus, option, atoms, Then, Many, done, more, In}
+use Rattle.std.proofs.Common.{◌≡◌, ℕ, ◌+◌, ◌<◌, ◌≤◌, ◌⊎◌, List, [], ◌∷◌, refl, ap, subst, inl, inr, arith}
+use Rattle.models.specs.Expressions.{Exp, empty, atom, seq, alt, star, plus, option, atoms, Then, Many, done, In}
 use Rattle.models.specs.Rests.{Rest}
 use Rattle.models.proofs.Joins.{then_map, then_nil, then_cons, then_skip, then_first, many_cons, many_first}
 use Rattle.models.proofs.Rests.{rest_mono, rest_or, rest_guard}

@@ -1,6 +1,6 @@
 -- Words of one language after words of another, and any number of them: what a first letter says.
-use Rattle.std.proofs.Common.{◌≡◌, ℕ, ◌⊎◌, List, [], ◌∷◌, ◌++◌, sym, refl, ap, ◌∙◌, subst, inl, inr, arith}
-use Rattle.engine.specs.Languages.{Language, residue}
+use Rattle.std.proofs.Common.{◌≡◌, ℕ, ◌⊎◌, List, [], ◌∷◌, sym, refl, ap, ◌∙◌, subst, inl, inr, arith}
+use Rattle.engine.specs.Languages.{Language}
 use Rattle.models.specs.Expressions.{Then, Many, done, more}
 
 module _ {X : Type 0} where

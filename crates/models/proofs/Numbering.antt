@@ -4,7 +4,7 @@ use native.Mathlib.Decide.{dec_le}
 use lib.Bits.{bit_or}
 use Rattle.models.specs.Expressions.{Exp, empty, atom, seq, alt, star, plus, option, atoms}
 use Rattle.models.specs.Folds.{code}
-use Rattle.models.specs.Readers.{atom_of, atoms_of, Numbered, Readers, Sees}
+use Rattle.models.specs.Readers.{atom_of, atoms_of, Numbered, Sees}
 use Rattle.models.specs.Sets.{Has, singleton}
 use Rattle.models.specs.declared.node.Node.{Node}
 use Rattle.models.specs.declared.node.Node.TheVariants as node

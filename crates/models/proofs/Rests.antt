@@ -1,8 +1,8 @@
 -- What may follow a set of atoms depends on the set's own atoms alone, and goes on to a word from each of them.
-use Rattle.std.proofs.Common.{◌≡◌, ℕ, ◌+◌, ◌<◌, ◌≤◌, ◌⊎◌, List, [], ◌∷◌, ◌++◌, sym, refl, ap, ◌∙◌, subst, inl, inr, append-nil, arith}
+use Rattle.std.proofs.Common.{◌≡◌, ℕ, ◌+◌, ◌<◌, ◌≤◌, ◌⊎◌, List, [], ◌∷◌, ◌++◌, refl, subst, inl, inr, arith}
 use native.Mathlib.Decide.{dec_le}
-use Rattle.engine.specs.Languages.{Language, Inhabited}
-use Rattle.models.specs.Expressions.{Exp, empty, atom, seq, alt, star, plus, option, atoms, Then, Many, done, more, In}
+use Rattle.engine.specs.Languages.{Inhabited}
+use Rattle.models.specs.Expressions.{Exp, empty, atom, seq, alt, star, plus, option, atoms, done, In}
 use Rattle.models.specs.Rests.{Rest}
 use Rattle.models.proofs.Joins.{then_map}
 

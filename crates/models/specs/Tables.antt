@@ -1,5 +1,5 @@
 -- Tables of models: which expression a number has, and the languages that this gives.
-use Rattle.std.specs.Prelude.{◌≡◌, ℕ, ◌-◌, ◌≤◌, ◌⊎◌, List, length, take, drop, slice_index_or}
+use Rattle.std.specs.Prelude.{ℕ, ◌-◌, ◌≤◌, ◌⊎◌, List, length, take, drop, slice_index_or}
 use Rattle.engine.specs.Languages.{Language, Empty, Same}
 use Rattle.models.specs.Expressions.{Exp, Words}
 use Rattle.models.specs.Folds.{Codes}

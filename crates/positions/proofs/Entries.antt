@@ -1,5 +1,5 @@
 -- The entries of the tables, one by one.
-use Rattle.std.proofs.Common.{◌≡◌, ℕ, suc, ◌+◌, ◌*◌, ◌/◌, ◌%◌, ◌<◌, ◌≤◌, Bool, ◌⊎◌, List, [], ◌∷◌, ◌++◌, length, get_or, take, drop, sym, refl, ap, ◌∙◌, subst, inl, inr, arith, length-append, take-append-drop}
+use Rattle.std.proofs.Common.{◌≡◌, ℕ, suc, ◌+◌, ◌*◌, ◌/◌, ◌<◌, ◌≤◌, Bool, ◌⊎◌, List, [], ◌∷◌, ◌++◌, length, get_or, take, drop, sym, refl, ap, ◌∙◌, subst, inl, inr, arith, length-append, take-append-drop}
 use native.Mathlib.Decide.{dec_le}
 use lib.Bits.{bit_or}
 use lib.ListN.{get_or-eq_default}
@@ -8,7 +8,7 @@ use Rattle.derivative.specs.Derivation.{derivation, after_state, ends_in}
 use Rattle.derivative.specs.declared.derive.Derived.{Derived}
 use Rattle.models.specs.Expressions.{Exp}
 use Rattle.models.specs.Folds.{value}
-use Rattle.models.specs.Readers.{atom_of, atoms_of, Numbered}
+use Rattle.models.specs.Readers.{atoms_of, Numbered}
 use Rattle.models.specs.Sets.{guarded, singleton}
 use Rattle.models.specs.Tables.{Coded}
 use Rattle.models.specs.declared.node.Model.{Model}

@@ -1,6 +1,6 @@
 -- The lowest number in a set stands at its trailing zeros, and a walk that takes it out each time gathers
 -- what every number of the set gives.
-use Rattle.std.proofs.Common.{◌≡◌, ℕ, zero, suc, ◌+◌, ◌*◌, ◌/◌, ◌%◌, ◌^◌, ◌<◌, ◌≤◌, ◌≢◌, ◌⊎◌, sym, refl, ap, ◌∙◌, subst, ap₂, inl, inr, pow-suc, div-one, arith}
+use Rattle.std.proofs.Common.{◌≡◌, ℕ, zero, suc, ◌+◌, ◌/◌, ◌%◌, ◌^◌, ◌<◌, ◌≢◌, ◌⊎◌, sym, refl, ap, ◌∙◌, subst, ap₂, inl, inr, pow-suc, div-one, arith}
 use native.Mathlib.Decide.{dec_le, ℕ_discrete}
 use lib.Bits.{bit_and, bit_xor, xor_shr, xor_mod, xor_zero_r, xor_add_and}
 use lib.Count.{count_trailing_zeros, under}

@@ -1,15 +1,15 @@
 -- The rows are what marked words say: which atom may come straight after which, and where a word may end.
-use Rattle.std.proofs.Common.{◌≡◌, ℕ, ◌+◌, ◌-◌, ◌*◌, ◌<◌, ◌≤◌, Bool, true, false, ◌&&◌, ◌⊎◌, List, [], ◌∷◌, ◌++◌, length, get_or, sym, refl, ap, ◌∙◌, subst, inl, inr, append_assoc, append-nil, arith}
-use Rattle.models.specs.Expressions.{Exp, empty, atom, seq, alt, star, plus, option, atoms, In, more, done}
-use Rattle.models.specs.Marks.{Mark, ReadsMarked, MarkedWords, UpTo, Follows, EndsAfter}
+use Rattle.std.proofs.Common.{◌≡◌, ℕ, ◌+◌, ◌-◌, ◌*◌, ◌<◌, ◌≤◌, true, ◌&&◌, ◌⊎◌, List, [], ◌∷◌, ◌++◌, get_or, sym, refl, ap, ◌∙◌, subst, inl, inr, append_assoc, append-nil, arith}
+use Rattle.models.specs.Expressions.{Exp, empty, atom, seq, alt, star, plus, option, atoms, In, more}
+use Rattle.models.specs.Marks.{Mark, ReadsMarked, UpTo, Follows, EndsAfter}
 use Rattle.models.specs.Readers.{Numbered}
 use Rattle.models.specs.Rests.{Rest}
 use Rattle.models.specs.Sets.{Has, singleton, guarded}
 use Rattle.models.proofs.Bits.{has_or, has_or_l, has_or_r, has_guarded, guarded_has, single_has}
 use Rattle.models.proofs.Derivation.{Iff}
 use Rattle.models.proofs.Numbering.{leaves, length_leaves, numbered_one, numbered_some}
-use Rattle.models.proofs.Rests.{rest_mono, rest_or, rest_some, rest_guard, rest_live, word}
-use Rattle.derivative.specs.Derivation.{member, after_state, ends_in}
+use Rattle.models.proofs.Rests.{rest_mono, rest_some, rest_live, word}
+use Rattle.derivative.specs.Derivation.{member, ends_in}
 use Rattle.derivative.proofs.Knowing.{iff_member, iff_and, iff_or, nullable_computed, ends_computed}
 use Rattle.models.specs.declared.node.Model.{Model}
 use Rattle.models.specs.declared.node.Node.{Node}

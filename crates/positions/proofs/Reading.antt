@@ -1,8 +1,7 @@
 -- Reading the follow table: its rows and atoms give the words that go on with a letter, and those that end.
-use Rattle.std.proofs.Common.{◌≡◌, ℕ, zero, suc, ◌+◌, ◌-◌, ◌*◌, ◌/◌, ◌%◌, ◌^◌, ◌<◌, ◌≤◌, Bool, true, false, ◌&&◌, ◌||◌, eqb, ◌≢◌, ◌⊎◌, List, [], ◌∷◌, ◌++◌, length, get_or, Some, sym, refl, ap, ◌∙◌, subst, inl, inr, add-zero, div-one, arith, eq-eqb, eqb-true}
-use lib.Bits.{bit_or}
+use Rattle.std.proofs.Common.{◌≡◌, ℕ, zero, suc, ◌+◌, ◌-◌, ◌*◌, ◌/◌, ◌%◌, ◌^◌, ◌<◌, ◌≤◌, Bool, true, false, ◌&&◌, eqb, ◌≢◌, ◌⊎◌, List, [], ◌∷◌, get_or, Some, sym, refl, ap, ◌∙◌, subst, inl, inr, add-zero, div-one, arith, eq-eqb, eqb-true}
 use Rattle.engine.specs.Languages.{Empty, Answers, Decides, residue}
-use Rattle.models.specs.Expressions.{Exp, atoms, In, Words}
+use Rattle.models.specs.Expressions.{Exp, atoms, Words}
 use Rattle.models.specs.Folds.{code}
 use Rattle.models.specs.Readers.{atoms_of, Numbered}
 use Rattle.models.specs.Rests.{Rest}
@@ -12,11 +11,11 @@ use Rattle.models.specs.declared.node.Model.{Model}
 use Rattle.models.specs.declared.node.Node.{Node}
 use Rattle.models.specs.declared.node.Node.TheVariants as node
 use Rattle.models.proofs.Bits.{has_or, has_or_l, has_or_r, has_none, has_power, has_guarded, guarded_has, has_small, single_has, some_bit}
-use Rattle.models.proofs.Derivation.{Iff, Derives}
+use Rattle.models.proofs.Derivation.{Iff}
 use Rattle.models.proofs.ModelTables.{coded_or_not}
 use Rattle.models.proofs.Numbering.{leaves, length_leaves, numbered_in, numbered_one, numbered_some, coded_leaves}
 use Rattle.models.proofs.Rests.{rest_mono, rest_or, rest_some, rest_guard, rest_each, word}
-use Rattle.derivative.specs.Derivation.{member, derivation, after_state, ends_in}
+use Rattle.derivative.specs.Derivation.{member, after_state, ends_in}
 use Rattle.derivative.proofs.Knowing.{iff_member, iff_and, iff_or, iff_then, nullable_computed, ends_computed}
 use Rattle.derivative.proofs.Stepping.{ends_decided, begin_some, step_none, step_some}
 use Rattle.positions.specs.Following.{everything, row, Followed, Blank, Placed, Spare}

@@ -1,6 +1,6 @@
 -- A step from a set of atoms is the union of the steps from each of them, whatever the letter, cut down to
 -- the atoms that read the letter.
-use Rattle.std.proofs.Common.{◌≡◌, ℕ, ◌+◌, ◌%◌, ◌^◌, ◌<◌, ◌≤◌, Bool, true, false, ◌&&◌, ◌||◌, ◌⊎◌, List, [], ◌∷◌, ◌++◌, sym, refl, ap, ◌∙◌, subst, ap₂, inl, inr, mod-eq_of_lt, arith, le-ltb}
+use Rattle.std.proofs.Common.{◌≡◌, ℕ, ◌+◌, ◌^◌, ◌<◌, ◌≤◌, true, false, ◌&&◌, ◌||◌, ◌⊎◌, List, ◌++◌, sym, refl, ◌∙◌, subst, ap₂, inl, inr, mod-eq_of_lt, arith, le-ltb}
 use native.Mathlib.Decide.{dec_le}
 use lib.Bits.{bit_and, bit_or, and_mask}
 use Rattle.std.proofs.lemmas.Nat.{pow_below}
@@ -11,7 +11,7 @@ use Rattle.models.specs.Sets.{Has, singleton, guarded}
 use Rattle.models.proofs.Bits.{has_none, has_and, and_has, has_own, has_single, single_has}
 use Rattle.models.proofs.Derivation.{Iff, Derives, derives_by, derives_empty, derives_atom, derives_seq, derives_alt, derives_star, derives_plus, derives_option}
 use Rattle.models.proofs.Numbering.{leaves, length_leaves, numbered_append}
-use Rattle.derivative.specs.Derivation.{member, derivation, after_state, ends_in}
+use Rattle.derivative.specs.Derivation.{derivation}
 use Rattle.derivative.specs.declared.derive.Derived.{Derived}
 use Rattle.derivative.proofs.Knowing.{iff_member, iff_and, iff_or, iff_union, iff_guarded}
 use Rattle.positions.specs.Following.{everything}

@@ -1,14 +1,13 @@
 -- What is found of models is what the definitions say.
-use Rattle.std.proofs.Common.{◌≡◌, ℕ, ◌≤◌, Bool, true, false, List, [], length, Option, sym, ap, ◌∙◌, subst, arith, take_all}
+use Rattle.std.proofs.Common.{ℕ, ◌≤◌, Bool, true, false, List, [], length, Option, sym, subst, arith, take_all}
 use Rattle.engine.specs.Languages.{Each, Decides}
 use Rattle.engine.specs.declared.alphabet.ContentAtom.{ContentAtom}
 use Rattle.models.specs.Expressions.{Exp}
-use Rattle.models.specs.Folds.{Codes, code}
+use Rattle.models.specs.Folds.{Codes}
 use Rattle.models.specs.Readers.{atoms_of}
-use Rattle.models.specs.Tables.{Coded, NodesOf}
+use Rattle.models.specs.Tables.{NodesOf}
 use Rattle.models.specs.declared.node.Model.{Model}
 use Rattle.models.specs.declared.node.Node.{Node}
-use Rattle.models.proofs.Folding.{codes_one}
 use Rattle.sealing.specs.Questions.{FirstNo, HasTree, HasNoTree, IsAmbiguous, Unambiguous, elements}
 use Rattle.sealed.specs.Checks.{Names, HasModel, Sealable}
 

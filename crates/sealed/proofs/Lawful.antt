@@ -1,5 +1,5 @@
 -- The law of contents, of tables that may be sealed.
-use Rattle.std.proofs.Common.{◌≡◌, ℕ, zero, suc, ◌+◌, ◌^◌, ◌<◌, ◌≤◌, Bool, true, false, ◌⊎◌, List, [], ◌∷◌, ◌++◌, length, Some, None, Option, sym, refl, ap, ◌∙◌, subst, inl, inr, arith}
+use Rattle.std.proofs.Common.{◌≡◌, ℕ, zero, suc, ◌+◌, ◌^◌, ◌<◌, ◌≤◌, Bool, true, false, ◌⊎◌, List, length, Some, None, Option, sym, refl, subst, inl, inr, arith}
 use mathlib.Core.HLevel.{⊥_prop}
 use mathlib.Core.Logic.{∥∥₁_elim}
 use native.Mathlib.Decide.{dec_le}
@@ -11,13 +11,13 @@ use Rattle.bits.specs.Sets.{has}
 use Rattle.bits.proofs.Sets as sets
 use Rattle.engine.specs.Atoms.{StandsFor}
 use Rattle.engine.specs.Languages.{Each, Decides}
-use Rattle.engine.specs.Trees.{letters, Declared, IsKnown, Contents}
+use Rattle.engine.specs.Trees.{letters, IsKnown, Contents}
 use Rattle.engine.specs.declared.alphabet.ContentAtom.{ContentAtom}
 use Rattle.engine.specs.declared.alphabet.ContentAtom.TheVariants as content
 use Rattle.engine.specs.declared.alphabet.Letter.{Letter}
 use Rattle.engine.specs.declared.alphabet.Letter.TheVariants.{Text, Element}
-use Rattle.models.specs.Expressions.{Exp, Words}
-use Rattle.models.specs.Folds.{Codes, Folded, value, code}
+use Rattle.models.specs.Expressions.{Exp}
+use Rattle.models.specs.Folds.{Folded, value, code}
 use Rattle.models.specs.Readers.{Numbered, atoms_of}
 use Rattle.models.specs.Tables.{Coded, ModelWords, NodesOf, model_at, part}
 use Rattle.models.specs.declared.node.Model.{Model}

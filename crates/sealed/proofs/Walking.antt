@@ -1,18 +1,18 @@
 -- Reading text again and again: where it leads, and what it shows.
-use Rattle.std.proofs.Common.{◌≡◌, ℕ, zero, suc, ◌+◌, ◌<◌, ◌≤◌, Bool, true, false, ◌≢◌, ◌⊎◌, List, [], ◌∷◌, ◌++◌, Some, None, Option, sym, refl, ap, ◌∙◌, subst, inl, inr, arith, MatchOption}
+use Rattle.std.proofs.Common.{◌≡◌, ℕ, zero, suc, ◌<◌, ◌≤◌, true, false, ◌⊎◌, List, [], ◌∷◌, Some, None, Option, sym, refl, ap, ◌∙◌, subst, inl, inr, arith, MatchOption}
 use borrow.Author.Tests.{both_ways}
 use Rattle.std.proofs.lemmas.Bool.{cases_eq}
 use Rattle.bits.specs.Sets.{has}
 use Rattle.bits.proofs.Sets as sets
 use Rattle.engine.specs.Atoms.{StandsFor}
-use Rattle.engine.specs.Languages.{Each, Decides}
+use Rattle.engine.specs.Languages.{Each}
 use Rattle.engine.specs.Trees.{IsText}
 use Rattle.engine.specs.declared.alphabet.ContentAtom.{ContentAtom}
 use Rattle.engine.specs.declared.alphabet.Letter.{Letter}
 use Rattle.engine.specs.declared.alphabet.Letter.TheVariants.{Text, Element}
-use Rattle.models.specs.Expressions.{Exp, atoms, Words}
+use Rattle.models.specs.Expressions.{Exp, Words}
 use Rattle.models.specs.Folds.{Codes, value}
-use Rattle.models.specs.Marks.{Mark, Ambiguous}
+use Rattle.models.specs.Marks.{Ambiguous}
 use Rattle.models.specs.Readers.{Readers}
 use Rattle.models.specs.Rests.{Rest}
 use Rattle.models.specs.Sets.{Has, singleton}

@@ -13,7 +13,6 @@ use Rattle.models.specs.Marks.{Ambiguous}
 use Rattle.models.specs.Sets.{singleton}
 use Rattle.models.specs.Tables.{Left}
 use Rattle.models.specs.declared.node.Node.{Node}
-use Rattle.models.specs.declared.node.Node.TheVariants as node
 
 -- The atom stands for text and for nothing else.
 abbrev pub TextOnly : ContentAtom → Type 0

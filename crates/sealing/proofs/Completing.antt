@@ -1,11 +1,11 @@
 -- Elements that can be completed have trees, and elements with trees are in every set that lacks none.
-use Rattle.std.proofs.Common.{◌≡◌, ℕ, ◌+◌, ◌<◌, ◌≤◌, Bool, true, false, ◌&&◌, ◌||◌, ◌⊎◌, List, [], ◌∷◌, ◌++◌, length, sym, refl, ap, ◌∙◌, subst, inl, inr, arith}
+use Rattle.std.proofs.Common.{◌≡◌, ℕ, ◌+◌, ◌≤◌, Bool, true, false, List, [], ◌∷◌, ◌++◌, length, sym, refl, ap, ◌∙◌, subst, inl, inr, arith}
 use borrow.Author.Tests.{both_ways}
 use Rattle.std.proofs.lemmas.Bool.{cases_eq}
 use Rattle.bits.specs.Sets.{has}
 use Rattle.engine.specs.Atoms.{StandsFor}
 use Rattle.engine.specs.Languages.{Language, Each, Decides}
-use Rattle.engine.specs.Trees.{Forest, none, piece, child, letters, AllValid, Fits, Valid, no_values}
+use Rattle.engine.specs.Trees.{Forest, none, piece, child, letters, AllValid, Valid, no_values}
 use Rattle.engine.specs.declared.alphabet.ContentAtom.{ContentAtom}
 use Rattle.engine.specs.declared.alphabet.ContentAtom.TheVariants as content
 use Rattle.engine.specs.declared.alphabet.Letter.{Letter}
@@ -17,7 +17,7 @@ use Rattle.models.specs.declared.node.Model.{Model}
 use Rattle.models.specs.declared.node.Node.{Node}
 use Rattle.models.proofs.ModelTables.{coded_one}
 use Rattle.derivative.proofs.Knowing.{iff_and, iff_or}
-use Rattle.sealing.specs.Completion.{Within, completion, single_completes, Completes, Lacking}
+use Rattle.sealing.specs.Completion.{Within, completion, single_completes, Completes}
 use Rattle.sealing.specs.Questions.{HasTree}
 
 -- Of each letter of a word, and of each letter of its two parts.

@@ -1,5 +1,5 @@
 -- Asking numbers in turn.
-use Rattle.std.proofs.Common.{◌≡◌, ℕ, ◌+◌, ◌<◌, ◌≤◌, Bool, true, false, sym, refl, subst, inl, inr, arith}
+use Rattle.std.proofs.Common.{◌≡◌, ℕ, ◌+◌, ◌<◌, ◌≤◌, Bool, true, false, sym, subst, inl, inr, arith}
 use Rattle.engine.specs.Languages.{Decides}
 use Rattle.std.proofs.lemmas.Bool.{cases_eq}
 

@@ -1,5 +1,5 @@
 -- What the code finds of forks and ambiguity is what the definitions say.
-use Rattle.std.proofs.Common.{◌≡◌, ℕ, ◌+◌, ◌^◌, ◌<◌, ◌≤◌, Bool, true, false, not, eqb, ◌≢◌, ◌⊎◌, List, [], ◌∷◌, ◌++◌, sym, refl, ap, ◌∙◌, subst, inl, inr, append-nil, arith, eqb-true}
+use Rattle.std.proofs.Common.{◌≡◌, ℕ, ◌+◌, ◌^◌, ◌<◌, ◌≤◌, Bool, true, false, not, eqb, ◌⊎◌, List, [], ◌∷◌, ◌++◌, sym, refl, ap, ◌∙◌, subst, inl, inr, append-nil, eqb-true}
 use borrow.Author.Tests.{both_ways, eqb-false}
 use Rattle.std.proofs.lemmas.Bool.{cases_eq}
 use Rattle.bits.specs.Sets.{has}
@@ -10,9 +10,9 @@ use Rattle.engine.specs.declared.alphabet.ContentAtom.{ContentAtom}
 use Rattle.engine.specs.declared.alphabet.ContentAtom.TheVariants as content
 use Rattle.engine.specs.declared.alphabet.Letter.{Letter}
 use Rattle.engine.specs.declared.alphabet.Letter.TheVariants.{Text, Element}
-use Rattle.models.specs.Expressions.{Exp, atoms}
+use Rattle.models.specs.Expressions.{Exp}
 use Rattle.models.specs.Folds.{Codes, value}
-use Rattle.models.specs.Marks.{Mark, Ambiguous}
+use Rattle.models.specs.Marks.{Mark}
 use Rattle.models.specs.Readers.{Numbered, Readers, atom_of, atoms_of}
 use Rattle.models.specs.Sets.{Has, singleton}
 use Rattle.models.specs.Tables.{NodesOf}

@@ -1,10 +1,10 @@
 -- Marked words: what follows the last mark read, how each atom is reached, and which atoms may read next.
-use Rattle.std.proofs.Common.{◌≡◌, ℕ, ◌+◌, ◌<◌, ◌≤◌, Bool, true, false, ◌&&◌, ◌||◌, ◌≢◌, ◌⊎◌, List, [], ◌∷◌, ◌++◌, sym, refl, ap, ◌∙◌, subst, ap₂, inl, inr, append_assoc, arith}
+use Rattle.std.proofs.Common.{◌≡◌, ℕ, ◌+◌, ◌<◌, ◌≤◌, Bool, ◌&&◌, ◌||◌, ◌⊎◌, List, [], ◌∷◌, ◌++◌, sym, refl, ap, ◌∙◌, subst, ap₂, inl, inr, append_assoc, arith}
 use native.Mathlib.Decide.{dec_le}
 use lib.Bits.{bit_and, bit_or}
 use Rattle.std.proofs.lemmas.Bool.{cases_eq}
-use Rattle.engine.specs.Languages.{Language, Each}
-use Rattle.models.specs.Expressions.{Exp, empty, atom, seq, alt, star, plus, option, atoms, Then, Many, done, more, In}
+use Rattle.engine.specs.Languages.{Each}
+use Rattle.models.specs.Expressions.{Exp, empty, atom, seq, alt, star, plus, option, atoms, Many, done, more, In}
 use Rattle.models.specs.Folds.{value}
 use Rattle.models.specs.Marks.{Mark, MarkedWords, ReadsMarked, Ambiguous}
 use Rattle.models.specs.Readers.{Numbered}
@@ -16,7 +16,6 @@ use Rattle.models.proofs.Joins.{then_map, then_cons, many_cons}
 use Rattle.models.proofs.Numbering.{leaves, length_leaves, numbered_in, numbered_one, numbered_append}
 use Rattle.models.proofs.Rests.{rest_mono, rest_some, rest_live, word}
 use Rattle.derivative.specs.Derivation.{member, derivation, after_state}
-use Rattle.derivative.specs.declared.derive.Derived.{Derived}
 use Rattle.derivative.proofs.Knowing.{Knows, Agrees, computed, iff_member}
 use Rattle.derivative.proofs.Stepping.{reached_in}
 use Rattle.sealing.specs.Forks.{After, Forks}

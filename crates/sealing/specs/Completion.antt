@@ -1,5 +1,5 @@
 -- Which elements can be completed when those of a set can, worked out from the nodes.
-use Rattle.std.specs.Prelude.{◌≡◌, ℕ, ◌<◌, ◌≤◌, Bool, true, false, ◌&&◌, ◌||◌, List, Some, None, Option}
+use Rattle.std.specs.Prelude.{◌≡◌, ℕ, ◌≤◌, Bool, true, false, ◌&&◌, ◌||◌, List, Some, None, Option}
 use Rattle.bits.specs.Sets.{has}
 use Rattle.engine.specs.Atoms.{StandsFor}
 use Rattle.engine.specs.Languages.{Each}

@@ -1,5 +1,5 @@
 -- What is asked of content models before they are sealed.
-use Rattle.std.specs.Prelude.{ℕ, ◌<◌, ◌≤◌, List, length, take, Some, None, Option}
+use Rattle.std.specs.Prelude.{ℕ, ◌<◌, ◌≤◌, List, take, Some, None, Option}
 use Rattle.engine.specs.Atoms.{StandsFor}
 use Rattle.engine.specs.Trees.{Forest, Valid, no_values}
 use Rattle.engine.specs.declared.alphabet.ContentAtom.{ContentAtom}

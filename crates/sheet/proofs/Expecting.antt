@@ -1,16 +1,16 @@
 -- What a sheet tells about the next events is right for the calls that it stands for.
-use Rattle.std.proofs.Common.{◌≡◌, ℕ, ◌-◌, ◌<◌, ◌≤◌, Bool, true, false, ◌⊎◌, List, [], ◌∷◌, ◌++◌, get_or, Some, None, Option, sym, refl, ap, ◌∙◌, subst, inl, inr, append_assoc, arith}
+use Rattle.std.proofs.Common.{◌≡◌, ℕ, ◌-◌, ◌<◌, ◌≤◌, Bool, true, false, ◌⊎◌, List, [], ◌∷◌, ◌++◌, get_or, Some, None, Option, sym, refl, ◌∙◌, subst, inl, inr, append_assoc, arith}
 use native.Mathlib.Decide.{ℕ_discrete}
 use Rattle.bits.specs.Sets.{has}
 use Rattle.bits.proofs.Sets.{empty}
-use Rattle.engine.specs.Languages.{Language, Empty, Inhabited, Same, residue, Decides, Each}
-use Rattle.engine.specs.Trees.{none, letters, joined, Declared, IsByte, IsKnown, Event, start, text, end, traversal}
+use Rattle.engine.specs.Languages.{Language, Empty, Inhabited, residue, Decides, Each}
+use Rattle.engine.specs.Trees.{none, letters, joined, Declared, IsByte, IsKnown, Event, start, text, end}
 use Rattle.engine.specs.declared.alphabet.Letter.{Letter}
 use Rattle.engine.specs.declared.alphabet.Letter.TheVariants.{Text, Element}
 use Rattle.engine.proofs.Advancing.{decides_iff}
 use Rattle.sheet.specs.Asks.{Completes}
 use Rattle.sheet.specs.Expect.{Welcome, ExpectedNext, ValueGoesOn, TextGoesOn}
-use Rattle.sheet.specs.Histories.{Call, root, events, passed}
+use Rattle.sheet.specs.Histories.{Call}
 use Rattle.sheet.specs.Levels.{Level, opened, Agreed}
 use Rattle.sheet.specs.Questions.{Admitted, BeginsDocument, HasByte, Underway}
 use Rattle.sheet.specs.Stands.{Reads, ReadsValue, StandsAt, Stands}

@@ -1,6 +1,6 @@
 -- Frames: what a write to one leaves of the others, and what the engines' answers say of the element it stands for.
-use Rattle.std.proofs.Common.{◌≡◌, ℕ, suc, ◌+◌, ◌-◌, ◌<◌, ◌≤◌, ◌≢◌, ◌⊎◌, List, [], ◌∷◌, ◌++◌, length, get_or, set, Some, None, Option, sym, refl, ap, ◌∙◌, subst, inl, inr, append_assoc, append-nil, arith, length-set, get_or-set_other, get_or-set_same}
-use Rattle.engine.specs.Languages.{Language, Empty, Inhabited, Same, residue, Answers, Advanced}
+use Rattle.std.proofs.Common.{◌≡◌, ℕ, suc, ◌≤◌, ◌≢◌, ◌⊎◌, List, [], ◌∷◌, ◌++◌, length, set, Some, None, Option, sym, refl, ap, ◌∙◌, subst, inl, inr, append_assoc, append-nil, arith, get_or-set_other}
+use Rattle.engine.specs.Languages.{Language, Empty, Inhabited, Same, residue, Answers}
 use Rattle.engine.specs.Trees.{Forest, none, piece, child, letters, joined, Fits}
 use Rattle.engine.specs.declared.alphabet.Letter.{Letter}
 use Rattle.engine.specs.declared.alphabet.Letter.TheVariants.{Text, Element}

@@ -1,10 +1,9 @@
 -- A run call by call: one answer more keeps the history right and the sheet standing for what was accepted.
-use Rattle.std.proofs.Common.{◌≡◌, ℕ, zero, suc, ◌+◌, ◌<◌, ◌≤◌, min, List, [], ◌∷◌, ◌++◌, length, get_or, take, drop, set, sym, refl, ap, ◌∙◌, subst, arith, length-take, drop-drop, drop-set-lt}
+use Rattle.std.proofs.Common.{◌≡◌, ℕ, zero, suc, ◌+◌, ◌<◌, min, List, [], ◌∷◌, ◌++◌, length, get_or, take, drop, set, sym, refl, ap, ◌∙◌, subst, arith, length-take, drop-drop, drop-set-lt}
 use Rattle.std.proofs.lemmas.List.{take_more, take_more_set}
 use Rattle.engine.specs.Languages.{Language}
 use Rattle.engine.specs.declared.alphabet.Letter.{Letter}
-use Rattle.sheet.specs.Histories as histories
-use Rattle.sheet.specs.Histories.{Turn, keep, kept, kept_after}
+use Rattle.sheet.specs.Histories.{Turn, kept}
 use Rattle.sheet.specs.Replies.{shown}
 use Rattle.sheet.specs.Runs.{turns}
 use Rattle.sheet.specs.Said.{sent}

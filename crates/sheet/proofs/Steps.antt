@@ -1,8 +1,8 @@
 -- One event asked of a sheet that stands for some calls: which reply is right, and what the sheet then stands for.
-use Rattle.std.proofs.Common.{◌≡◌, ℕ, zero, suc, ◌+◌, ◌-◌, ◌<◌, ◌≤◌, Bool, true, false, ◌≢◌, ◌⊎◌, List, [], ◌∷◌, ◌++◌, length, get_or, set, Some, None, Option, sym, refl, ap, ◌∙◌, subst, inl, inr, append_assoc, append-nil, arith, length-append, length-set, get_or-set_other, get_or-set_same}
+use Rattle.std.proofs.Common.{◌≡◌, ℕ, suc, ◌+◌, ◌-◌, ◌<◌, ◌≤◌, true, false, ◌≢◌, ◌⊎◌, List, [], ◌∷◌, ◌++◌, length, get_or, set, Some, None, sym, refl, ap, ◌∙◌, subst, inl, inr, append-nil, arith, length-append, length-set, get_or-set_other, get_or-set_same}
 use lib.Dec.{eqb-suc-zero}
-use Rattle.engine.specs.Languages.{Language, Empty, Inhabited, Same, residue, Each}
-use Rattle.engine.specs.Trees.{Forest, none, piece, child, letters, joined, Fits, AllValid, Valid, Declared, IsByte, Event, start, text, end, traversal}
+use Rattle.engine.specs.Languages.{Language, Empty, Inhabited, residue, Each}
+use Rattle.engine.specs.Trees.{Forest, none, piece, child, letters, joined, Fits, Valid, Declared, IsByte, Event, start, text, end, traversal}
 use Rattle.engine.specs.declared.alphabet.Letter.{Letter}
 use Rattle.engine.specs.declared.alphabet.Letter.TheVariants.{Text, Element}
 use Rattle.sheet.specs.Asks.{OpensFrame, ReadsLetter, ReadsText, Completes}
@@ -24,7 +24,7 @@ use Rattle.sheet.proofs.Calls.{root_more, events_more, passed_more, root_finish,
 use Rattle.sheet.proofs.Completion.{completes, alive_root, alive_start, alive_text, alive_end, opened_start, opened_text, opened_end, opened_whole}
 use Rattle.sheet.proofs.Forests.{join}
 use Rattle.sheet.proofs.Frames.{held_set, held_length, reads_opened, reads_letter, stuck_letter, reads_text, stuck_text, reads_end, reads_child}
-use Rattle.sheet.proofs.Prefixes.{starts_inside, texts_inside, ends_inside, first_event, nothing_after}
+use Rattle.sheet.proofs.Prefixes.{starts_inside, texts_inside, ends_inside, nothing_after}
 
 -- The root that a document begins with is the one begun.
 pub begins_at : (C : ℕ → Language Letter) (V : ℕ → Language ℕ) (calls : List Call) (e : Event) (r : ℕ) → root calls ≡ Some r →

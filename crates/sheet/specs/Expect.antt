@@ -4,7 +4,7 @@ use Rattle.bits.specs.Sets.{has}
 use Rattle.engine.specs.Languages.{Language, Inhabited, residue, Decides}
 use Rattle.engine.specs.Trees.{Event, start, text, end}
 use Rattle.engine.specs.declared.alphabet.Letter.{Letter}
-use Rattle.engine.specs.declared.alphabet.Letter.TheVariants.{Text, Element}
+use Rattle.engine.specs.declared.alphabet.Letter.TheVariants.{Text}
 use Rattle.sheet.specs.Histories.{Call}
 use Rattle.sheet.specs.Questions.{Known, Admitted, Underway}
 use Rattle.sheet.specs.Replies.{number}

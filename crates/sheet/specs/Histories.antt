@@ -1,5 +1,5 @@
 -- Histories: the calls sent to one sheet with the answers they got, and what was accepted of them.
-use Rattle.std.specs.Prelude.{◌≡◌, ℕ, ◌+◌, Bool, true, false, List, [], ◌∷◌, ◌++◌, Some, None, Option}
+use Rattle.std.specs.Prelude.{ℕ, ◌+◌, Bool, true, false, List, [], ◌∷◌, ◌++◌, Some, None, Option}
 use Rattle.engine.specs.Trees.{Event, start, text, end}
 use Rattle.sheet.specs.Replies.{Reply, accepted, refused, pass}
 

@@ -1,10 +1,9 @@
 -- Open elements: what has been read of each, and when there is still a way to a valid document.
 use Rattle.std.specs.Prelude.{◌≡◌, ℕ, ◌≤◌, ◌⊎◌, List, [], ◌∷◌, ◌++◌}
-use Rattle.std.proofs.Common.{inl, inr}
 use Rattle.engine.specs.Languages.{Language, Empty, Inhabited, residue, Each}
 use Rattle.engine.specs.Trees.{Forest, letters, joined, visits, AllValid, Plain, Contents, IsByte, Event, start}
 use Rattle.engine.specs.declared.alphabet.Letter.{Letter}
-use Rattle.engine.specs.declared.alphabet.Letter.TheVariants.{Text, Element}
+use Rattle.engine.specs.declared.alphabet.Letter.TheVariants.{Element}
 
 -- An open element: its number, and its children that are complete.
 pub record Level : Type 0 where

@@ -1,6 +1,5 @@
 -- The questions that are put to each call, in their order, over what was accepted before it.
-use Rattle.std.specs.Prelude.{◌≡◌, ℕ, ◌+◌, ◌<◌, ◌≤◌, Bool, true, false, ◌⊎◌, List, [], ◌∷◌, ◌++◌, length, Some, None, Option}
-use Rattle.std.proofs.Common.{inl, inr}
+use Rattle.std.specs.Prelude.{◌≡◌, ℕ, ◌+◌, ◌<◌, ◌≤◌, false, ◌⊎◌, List, [], ◌∷◌, ◌++◌, length, Some, None, Option}
 use Rattle.engine.specs.Languages.{Language, Inhabited}
 use Rattle.engine.specs.Trees.{Forest, Valid, Declared, Plain, Event, start, text, end, traversal}
 use Rattle.engine.specs.declared.alphabet.Letter.{Letter}

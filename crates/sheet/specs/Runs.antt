@@ -1,5 +1,5 @@
 -- Recorded runs: the history that a list of calls and a list of answers make, and the answers that were no refusals.
-use Rattle.std.specs.Prelude.{◌≡◌, ℕ, min, Bool, true, false, List, [], ◌∷◌, length, take, drop}
+use Rattle.std.specs.Prelude.{◌≡◌, ℕ, min, List, [], ◌∷◌, length, take, drop}
 use Rattle.sheet.specs.Histories.{Turn}
 use Rattle.sheet.specs.Replies.{shown}
 use Rattle.sheet.specs.Said.{sent}

@@ -1,5 +1,5 @@
 -- What the code's events and calls say.
-use Rattle.std.specs.Prelude.{◌≡◌, ℕ, ◌⊎◌, List, [], ◌∷◌}
+use Rattle.std.specs.Prelude.{◌≡◌, ℕ, ◌⊎◌}
 use Rattle.engine.specs.Languages.{Language}
 use Rattle.engine.specs.Trees as trees
 use Rattle.engine.specs.declared.alphabet.Letter.{Letter}

@@ -1,13 +1,13 @@
 -- What the state of a sheet stands for: the calls that were accepted so far.
-use Rattle.std.specs.Prelude.{◌≡◌, ℕ, suc, ◌+◌, ◌-◌, ◌<◌, ◌≤◌, Bool, true, false, ◌⊎◌, List, [], ◌∷◌, ◌++◌, length, Some, None, Ok, Err, Option, Result, slice_index_or}
+use Rattle.std.specs.Prelude.{◌≡◌, ℕ, suc, ◌≤◌, Bool, true, false, ◌⊎◌, List, [], ◌∷◌, ◌++◌, length, Some, None, Ok, Err, Option, Result, slice_index_or}
 use Rattle.engine.specs.Languages.{Language, Empty, Inhabited, Same, residue, Each}
-use Rattle.engine.specs.Trees.{Forest, letters, joined, Declared, Plain, Contents, IsByte, Event}
+use Rattle.engine.specs.Trees.{letters, joined, Declared, Plain, Contents, IsByte, Event}
 use Rattle.engine.specs.declared.alphabet.Letter.{Letter}
-use Rattle.engine.specs.declared.alphabet.Letter.TheVariants.{Text, Element}
+use Rattle.engine.specs.declared.alphabet.Letter.TheVariants.{Element}
 use Rattle.sheet.specs.Histories.{Call, send, keep, root, events, passed}
 use Rattle.sheet.specs.Levels.{Level, opened, Outermost, Alive, Agreed}
 use Rattle.sheet.specs.Questions.{IsDocument, Right, ValuesPlain}
-use Rattle.sheet.specs.Replies.{Reply, accepted, refused, number, outcome}
+use Rattle.sheet.specs.Replies.{Reply, accepted, refused, number}
 use Rattle.sheet.specs.States.{applied, no_frame, Fitting}
 use Rattle.sheet.specs.declared.answer.Refusal.{Refusal}
 use Rattle.sheet.specs.declared.state.Frame.{Frame}

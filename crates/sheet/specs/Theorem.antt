@@ -1,12 +1,11 @@
 -- What holds of every history of a sheet.
-use Rattle.std.specs.Prelude.{◌≡◌, ℕ, Bool, true, false, ◌⊎◌, List, [], ◌∷◌, ◌++◌, length, Some, None, Option}
-use Rattle.std.proofs.Common.{inl, inr}
+use Rattle.std.specs.Prelude.{◌≡◌, ℕ, true, false, ◌⊎◌, List, [], ◌∷◌, ◌++◌, length, Some}
 use Rattle.engine.specs.Languages.{Language}
 use Rattle.engine.specs.Trees.{Forest, Valid, Event, traversal}
 use Rattle.engine.specs.declared.alphabet.Letter.{Letter}
-use Rattle.sheet.specs.Histories.{Call, begin, send, finish, Turn, keep, kept, root, events, passed, IsRefused}
+use Rattle.sheet.specs.Histories.{Call, send, finish, Turn, keep, kept, root, events, passed, IsRefused}
 use Rattle.sheet.specs.Questions.{questions, AllHold, Right, BeginsDocument, IsDocument}
-use Rattle.sheet.specs.Replies.{Reply, accepted, refused, pass}
+use Rattle.sheet.specs.Replies.{Reply, refused, pass}
 
 -- Every reply of the history is the right one, when these calls were accepted before it.
 abbrev pub RightAfter : (ℕ → Language Letter) → (ℕ → Language ℕ) → List Call → List Turn → Type 0

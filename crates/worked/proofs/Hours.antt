@@ -1,28 +1,23 @@
 -- The worked examples hold: rows are computed, words are shown.
-use mathlib.Core.Path.{◌≡◌, refl, sym, ap, subst, ◌∙◌}
-use mathlib.Core.List.{List, [], ◌∷◌, ◌++◌}
+use mathlib.Core.Path.{◌≡◌, refl, sym, subst}
+use mathlib.Core.List.{[], ◌∷◌}
 use mathlib.Core.Bool.{true, false}
-use mathlib.Core.Logic.{◌⊎◌, inl, inr}
-use Prim.Native.Nat.{ℕ, ◌+◌, ◌≤◌}
+use mathlib.Core.Logic.{inl, inr}
+use Prim.Native.Nat.{ℕ, ◌≤◌}
 use native.Mathlib.Omega.{arith}
-use lib.Dec.{lit≤, lit<}
+use lib.Dec.{lit≤}
 use Rattle.engine.specs.Atoms.{StandsFor, InRange}
-use Rattle.engine.specs.declared.alphabet.ContentAtom.TheVariants.{Element}
 use Rattle.engine.specs.declared.alphabet.Letter.TheVariants as letter
 use Rattle.engine.specs.declared.range.ByteRange.{ByteRange}
-use Rattle.models.specs.Expressions.{Exp, seq, alt, star, plus, option, done, more, Words}
+use Rattle.models.specs.Expressions.{seq, alt, option, done, Words}
 use Rattle.models.specs.Folds.{value}
 use Rattle.models.specs.Marks.{Ambiguous}
-use Rattle.models.specs.Readers.{Numbered}
-use Rattle.models.specs.Rests.{Rest}
 use Rattle.models.specs.Sets.{Has}
-use Rattle.models.specs.Tables.{Left}
-use Rattle.models.proofs.Derivation.{Iff}
 use Rattle.models.proofs.Numbering.{leaves}
-use Rattle.derivative.specs.Derivation.{derivation, after_state}
+use Rattle.derivative.specs.Derivation.{derivation}
 use Rattle.derivative.proofs.Knowing.{Agrees, computed, ends_computed}
 use Rattle.derivative.proofs.Stepping.{left_step}
-use Rattle.worked.specs.Examples.{Worked, element, hours, digit, point}
+use Rattle.worked.specs.Examples.{Worked, element, hours}
 
 -- Two marked words that begin with the same letter, read by the atoms 1 and 2.
 title_twice : Ambiguous StandsFor (alt (alt (element 2) (seq (element 2) (element 3))) (element 3))

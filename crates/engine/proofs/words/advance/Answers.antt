@@ -1,4 +1,4 @@
-use Rattle.std.proofs.Common.{◌≡◌, ◌+◌, List, [], ◌∷◌, ◌++◌, length, get_or, take, drop, Some, None, sym, refl, ap, ◌∙◌, subst, arith, take-append-drop, take_all}
+use Rattle.std.proofs.Common.{◌≡◌, ◌+◌, [], ◌∷◌, ◌++◌, take, drop, Some, None, sym, refl, ap, ◌∙◌, subst, arith, take-append-drop, take_all}
 use Rattle.std.proofs.lemmas.List.{take_more, drop_more}
 use Rattle.engine.specs.Languages.{Advanced}
 use Rattle.engine.proofs.Advancing.{stuck, further}

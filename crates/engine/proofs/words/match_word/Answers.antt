@@ -1,4 +1,3 @@
-use Rattle.std.proofs.Common.{rules}
 use Rattle.engine.proofs.Advancing.{told, untold, decides_iff}
 use Rattle.engine.proofs.words.match_word.Goals as goal
 

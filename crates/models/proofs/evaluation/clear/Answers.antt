@@ -1,4 +1,4 @@
-use Rattle.std.proofs.Common.{set, refl, ap, ◌∙◌, arith}
+use Rattle.std.proofs.Common.{set, ap, ◌∙◌, arith}
 use Rattle.models.proofs.Stacks.{cleared_more, cleared_all}
 use Rattle.models.proofs.evaluation.clear.Goals as goal
 

@@ -1,4 +1,4 @@
-use Rattle.std.proofs.Common.{◌+◌, true, false, length, sym, ap, ◌∙◌, arith, lt-ltb}
+use Rattle.std.proofs.Common.{◌+◌, length, sym, ap, ◌∙◌, arith}
 use Rattle.models.specs.Turns.{turned, pushed, stack, tops}
 use Rattle.models.proofs.Folding.{turned_atom}
 use Rattle.models.proofs.Stacks.{join_short, takes_by, takes_none}

@@ -1,4 +1,4 @@
-use Rattle.std.proofs.Common.{◌≡◌, ◌-◌, ◌<◌, ◌≤◌, [], take, arith}
+use Rattle.std.proofs.Common.{arith}
 use Rattle.models.proofs.Folding.{no_code}
 use Rattle.models.proofs.ModelTables.{coded_ordered}
 use Rattle.models.proofs.tables.nodes_of.Goals as goal

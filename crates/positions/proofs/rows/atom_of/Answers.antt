@@ -1,4 +1,4 @@
-use Rattle.std.proofs.Common.{◌≡◌, length, take, sym, ap, ◌∙◌, subst, inl, inr, arith, take_all}
+use Rattle.std.proofs.Common.{length, ap, subst, inl, inr, arith, take_all}
 use Rattle.models.specs.Readers.{atoms_of, Numbered}
 use Rattle.positions.proofs.Entries.{met_same, met_atom, met_number, atom_found, atom_missing}
 use Rattle.positions.proofs.rows.atom_of.Goals as goal

@@ -1,4 +1,4 @@
-use Rattle.std.proofs.Common.{◌+◌, ◌/◌, ◌%◌, sym, ap, ◌∙◌}
+use Rattle.std.proofs.Common.{◌+◌, ◌/◌, ◌%◌, ap, ◌∙◌}
 use Rattle.models.proofs.ModelTables.{coded_one}
 use Rattle.positions.specs.Following.{row}
 use Rattle.positions.proofs.Entries.{row_made}

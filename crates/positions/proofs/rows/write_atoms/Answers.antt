@@ -1,4 +1,4 @@
-use Rattle.std.proofs.Common.{◌+◌, ◌/◌, ◌%◌, ◌<◌, ◌≢◌, length, get_or, sym, subst, arith, get_or-set_other, get_or-set_same, below_more}
+use Rattle.std.proofs.Common.{◌%◌, ◌<◌, ◌≢◌, length, sym, subst, arith, get_or-set_other, get_or-set_same, below_more}
 use Rattle.models.specs.declared.node.Node.TheVariants.{Unused}
 use Rattle.positions.specs.Following.{AtomAt, NodeAt}
 use Rattle.positions.proofs.rows.write_atoms.Goals as goal

@@ -1,5 +1,4 @@
-use Rattle.std.proofs.Common.{◌≡◌, ℕ, ◌+◌, get_or}
-use Rattle.models.specs.Sets.{Has}
+use Rattle.std.proofs.Common.{◌≡◌, ◌+◌, get_or}
 use Rattle.models.specs.declared.node.Node.TheVariants as node
 use Rattle.positions.specs.Walks.{Reads}
 use Rattle.positions.proofs.Gathering.{Gathered}

@@ -1,4 +1,4 @@
-use Rattle.std.proofs.Common.{ℕ, ◌+◌, get_or}
+use Rattle.std.proofs.Common.{◌+◌, get_or}
 use Rattle.models.specs.Sets.{Has}
 use Rattle.positions.proofs.Gathering.{Gathered}
 use Rattle.positions.proofs.walks.union_of.Given as goal

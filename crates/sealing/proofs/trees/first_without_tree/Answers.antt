@@ -1,4 +1,4 @@
-use Rattle.std.proofs.Common.{ℕ, ◌<◌, ◌≤◌, length, Some, None, sym, ap, ◌∙◌, subst, arith, length-take}
+use Rattle.std.proofs.Common.{length, Some, None, sym, ap, ◌∙◌, subst, arith, length-take}
 use Rattle.bits.specs.Sets.{has}
 use Rattle.sealing.specs.Questions.{FirstNo, HasTree, HasNoTree}
 use Rattle.sealing.proofs.Firsts.{below_next, decided_yes, decided_no}

@@ -1,5 +1,5 @@
 use Rattle.std.proofs.Common.{ℕ, ◌<◌, ◌≤◌}
-use Rattle.sealing.specs.Questions.{HasTree, elements}
+use Rattle.sealing.specs.Questions.{HasTree}
 use Rattle.sealing.proofs.trees.first_without_tree.Given as goal
 
 abbrev pub invariant-loop-number : goal.invariant-loop-number

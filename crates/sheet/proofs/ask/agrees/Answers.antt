@@ -1,4 +1,4 @@
-use Rattle.std.proofs.Common.{◌≡◌, ℕ, ◌<◌, ◌≤◌, true, ◌⊎◌, sym, subst, inl, inr, arith, below_more}
+use Rattle.std.proofs.Common.{◌≤◌, true, arith, below_more}
 use Rattle.sheet.specs.Stands.{AgreesAt}
 use Rattle.sheet.proofs.Steps.{agreed_all}
 use Rattle.sheet.proofs.ask.agrees.Goals as goal

@@ -1,4 +1,4 @@
-use Rattle.std.proofs.Common.{◌≡◌, ◌≤◌, length, get_or, drop, sym, refl, ap, ◌∙◌, subst, subst₂, arith}
+use Rattle.std.proofs.Common.{◌≡◌, get_or, ap, ◌∙◌, subst, subst₂, arith}
 use Rattle.sheet.specs.Replies.{shown}
 use Rattle.sheet.specs.Runs.{turns}
 use Rattle.sheet.specs.Said.{sent}

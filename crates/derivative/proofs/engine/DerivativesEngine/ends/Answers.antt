@@ -1,9 +1,4 @@
-use Rattle.std.proofs.Common.{◌≡◌, true, [], sym, ap, ◌∙◌, subst}
-use Rattle.models.specs.Folds.{value}
-use Rattle.models.specs.Tables.{Left}
-use Rattle.derivative.specs.Derivation.{derivation, ends_in}
-use Rattle.derivative.proofs.Knowing.{nullable_computed, ends_computed}
-use Rattle.derivative.proofs.Stepping.{left_end, ends_decided, ends_known}
+use Rattle.derivative.proofs.Stepping.{ends_known}
 use Rattle.derivative.proofs.engine.DerivativesEngine.ends.Goals as goal
 
 pub returns-in-Some : goal.returns-in-Some

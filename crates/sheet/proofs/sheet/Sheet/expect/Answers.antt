@@ -1,4 +1,4 @@
-use Rattle.std.proofs.Common.{ℕ, Bool, false, sym, refl, subst}
+use Rattle.std.proofs.Common.{ℕ, Bool, sym, refl, subst}
 use Rattle.sheet.specs.Expect.{ExpectedNext}
 use Rattle.sheet.specs.Questions.{Underway}
 use Rattle.sheet.proofs.Expecting.{expects_root, expects_ended, open_underway}
