@@ -3,7 +3,7 @@
 #![tactic(auto)]
 
 mod derive;
-mod engine;
+mod steps;
 
 pub use derive::{Derive, Derived, known};
-pub use engine::Derivatives;
+pub use steps::Derivatives;

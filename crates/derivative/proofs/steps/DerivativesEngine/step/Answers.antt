@@ -1,5 +1,5 @@
 use Rattle.derivative.proofs.Stepping.{step_none, step_some, steps, steps_in}
-use Rattle.derivative.proofs.engine.DerivativesEngine.step.Goals as goal
+use Rattle.derivative.proofs.steps.DerivativesEngine.step.Goals as goal
 
 pub returns-then-next-eq0 : goal.returns-then-next-eq0
 returns-then-next-eq0 g c =

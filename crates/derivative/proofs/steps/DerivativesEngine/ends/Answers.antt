@@ -1,5 +1,5 @@
 use Rattle.derivative.proofs.Stepping.{ends_known}
-use Rattle.derivative.proofs.engine.DerivativesEngine.ends.Goals as goal
+use Rattle.derivative.proofs.steps.DerivativesEngine.ends.Goals as goal
 
 pub returns-in-Some : goal.returns-in-Some
 returns-in-Some g c =

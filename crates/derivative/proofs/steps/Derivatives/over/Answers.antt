@@ -1,5 +1,5 @@
 use Rattle.derivative.proofs.Stepping.{speaks}
-use Rattle.derivative.proofs.engine.Derivatives.over.Goals as goal
+use Rattle.derivative.proofs.steps.Derivatives.over.Goals as goal
 
 pub returns : goal.returns
 returns g c = record {

@@ -1,6 +1,6 @@
 use Rattle.models.proofs.ModelTables.{in_each}
 use Rattle.derivative.proofs.Stepping.{begin_some}
-use Rattle.derivative.proofs.engine.DerivativesEngine.open.Goals as goal
+use Rattle.derivative.proofs.steps.DerivativesEngine.open.Goals as goal
 
 pub returns-in-Some : goal.returns-in-Some
 returns-in-Some g c =
