@@ -4,7 +4,7 @@ use Rattle.engine.specs.Languages.{Inhabited}
 use Rattle.engine.specs.Trees.{none, piece, Valid}
 use Rattle.bakery.specs.Contents.{Holds, sheet, shift, correction, lock, hours}
 use Rattle.bakery.specs.Values.{IsDigit, Reads, left_out, written}
-use Rattle.bakery.specs.Week.{Week_valid}
+use Rattle.bakery.specs.Week.{WeekValid}
 use Rattle.bakery.proofs.ValueMoves.{all_real}
 
 -- Text counts only in hours.
@@ -26,7 +26,7 @@ pub decimal : (units tenths last : ℕ) → IsDigit units → IsDigit tenths →
 decimal units tenths last d t l =
     (refl, (units, [], 46 ∷ tenths ∷ last ∷ [], refl, (d, tt), written tenths last t l refl))
 
-pub week_valid : Week_valid
+pub week_valid : WeekValid
 week_valid = (
   record { content = sheet refl (1, 1, refl); value = silent 1 [] (λ e. omega arith) },
   (

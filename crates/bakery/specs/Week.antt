@@ -28,9 +28,9 @@ week_events =
     ∷ []
 
 -- The week is a valid document of a sheet.
-abbrev pub Week_valid : Type 0
-Week_valid = Valid Holds Reads 1 week
+abbrev pub WeekValid : Type 0
+WeekValid = Valid Holds Reads 1 week
 
 -- A traversal of the week visits that list of events.
-abbrev pub Week_told : Type 0
-Week_told = traversal 1 week ≡ week_events
+abbrev pub WeekTold : Type 0
+WeekTold = traversal 1 week ≡ week_events
