@@ -1,3 +1,4 @@
 pub mod AtNodes
 pub mod Checks
+pub mod Refusals
 pub mod Texts

@@ -4,6 +4,7 @@
 #![tactic(auto)]
 
 mod questions;
+mod refusal;
 mod sealed;
 mod text;
 

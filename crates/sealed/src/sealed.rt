@@ -15,7 +15,7 @@ use models::{Model, Node, nodes_of, readers};
 const BEGINNING: u64 = 1;
 
 // A node table and the records of its models, which may be sealed. They are held for reading only.
-#[derive(Drop)]
+#[derive(Clone, Copy)]
 pub struct Sealed<'n, 'm> {
     nodes: &'n [Node<ContentAtom>],
     models: &'m [Model],

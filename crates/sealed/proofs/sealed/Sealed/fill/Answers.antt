@@ -1,3 +1,4 @@
+use Rattle.std.proofs.Common.{refl}
 use Rattle.engine.specs.Atoms.{StandsFor}
 use Rattle.derivative.proofs.Stepping.{speaks}
 use Rattle.sealed.proofs.sealed.Sealed.fill.Goals as goal
@@ -8,6 +9,7 @@ invariant_of-self c = record { checked = ∣ c.in_ok-check.ensures ∣₁ }
 pub returns : goal.returns
 returns c = record {
   answer = c.in_ok-check.ensures;
+  tables = (refl, refl);
   languages = speaks StandsFor c.args.nodes.now c.args.models.now;
   states = λ number state w. (λ h. h, λ h. h);
 }
