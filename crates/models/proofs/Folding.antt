@@ -285,7 +285,7 @@ code_or_not {A} room nodes = go (run free room nodes ([], 0)) refl
     go (Some v) h = let got = folded free room nodes (Some v) h in inl (got.0, got.1)
 
 -- The empty words of an expression.
-abbrev empties : {A : Type 0} → Exp A → ℕ
+abbrev pub empties : {A : Type 0} → Exp A → ℕ
 empties empty = 1
 empties (atom a) = 0
 empties (seq e f) = empties e + empties f
