@@ -1,5 +1,5 @@
 -- Particles, over any reader of groups that agrees with a relation, reads only at a bracket and leaves a shorter text.
-use Rattle.std.proofs.Common.{◌≡◌, ℕ, ◌<◌, true, false, eqb, List, ◌∷◌, length, sym, refl, ap, ◌∙◌, inl, inr, arith}
+use Rattle.std.proofs.Common.{◌≡◌, ℕ, true, false, eqb, List, ◌∷◌, sym, refl, ap, ◌∙◌, inl, inr, arith}
 use Rattle.std.proofs.lemmas.Bool.{both_ways}
 use Rattle.models.specs.Expressions.{Exp, atom}
 use Rattle.scan.specs.Bytes.{is_initial, first_is}

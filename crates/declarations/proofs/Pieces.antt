@@ -7,7 +7,6 @@ use Rattle.scan.specs.Comments.{held, closed, comment_rest, behind_opening, read
 use Rattle.scan.specs.Names.{Name}
 use Rattle.scan.specs.Readings.{Front, bad, got, word, over, next, Stands, EndOf}
 use Rattle.declarations.specs.Answers.{DeclaredAt, PieceAt}
-use Rattle.declarations.specs.Contents.{Declaration}
 use Rattle.declarations.specs.Grammar.{State, moved}
 use Rattle.declarations.specs.Readers.{read_declaration, declared_at, commented_or, item}
 use Rattle.declarations.specs.declared.declared.Declared.{Declared}

@@ -1,6 +1,6 @@
 -- What a declaration says: a name, and what may stand in an element of that name, with names in place of numbers.
-use Rattle.std.specs.Prelude.{ℕ, List, [], ◌∷◌}
-use Rattle.models.specs.Expressions.{Exp, empty, atom, seq, alt, star, plus, option}
+use Rattle.std.specs.Prelude.{ℕ, List}
+use Rattle.models.specs.Expressions.{Exp}
 use Rattle.scan.specs.Names.{Name}
 
 -- The content of an element as it is written: nothing, anything, text mixed with elements of these names, or an

@@ -1,6 +1,6 @@
 -- The grammar of declarations: each relation says what is read at the front of a text and what is left. The names are
 -- those of the productions of XML 1.0.
-use Rattle.std.specs.Prelude.{◌≡◌, ℕ, zero, suc, ◌+◌, ◌-◌, ◌<◌, true, false, ◌||◌, ◌≢◌, ◌⊎◌, List, [], ◌∷◌, ◌++◌, length, codes, ◌==◌, nat_eq}
+use Rattle.std.specs.Prelude.{◌≡◌, ℕ, zero, suc, ◌+◌, ◌-◌, true, false, ◌||◌, ◌≢◌, ◌⊎◌, List, [], ◌∷◌, ◌++◌, length, codes, ◌==◌, nat_eq}
 use Rattle.models.specs.Expressions.{Exp, atom, seq, alt, star, plus, option}
 use Rattle.scan.specs.Bytes.{is_blank, first_is, skip}
 use Rattle.scan.specs.Comments.{ReadsComment}

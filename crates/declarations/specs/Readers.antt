@@ -1,11 +1,11 @@
 -- The grammar of declarations, worked out: functions that read at the front of a text.
-use Rattle.std.specs.Prelude.{◌≡◌, ℕ, zero, suc, ◌+◌, ◌-◌, true, false, ◌||◌, List, [], ◌∷◌, ◌++◌, length, codes, ◌==◌, nat_eq}
-use Rattle.models.specs.Expressions.{Exp, atom, seq, alt, star, plus, option}
+use Rattle.std.specs.Prelude.{ℕ, zero, suc, true, false, List, [], ◌∷◌, ◌++◌, codes, ◌==◌, nat_eq}
+use Rattle.models.specs.Expressions.{Exp, atom, star, plus, option}
 use Rattle.scan.specs.Bytes.{is_blank, is_initial, first_is, skip}
 use Rattle.scan.specs.Comments.{read_comment}
 use Rattle.scan.specs.Names.{Name, read_name}
 use Rattle.scan.specs.Readings.{Front, bad, got, word, Turn, over, stuck, next, Run, finished, stopped, run}
-use Rattle.declarations.specs.Contents.{Content, nothing, anything, mixed, children, Declaration, Placed}
+use Rattle.declarations.specs.Contents.{Content, nothing, anything, mixed, children, Declaration}
 use Rattle.declarations.specs.Grammar.{Joint, by_comma, by_bar, sign, join, deepest, State, moved, beginning}
 
 -- An expression with the mark behind it, if there is one, and the text behind that.

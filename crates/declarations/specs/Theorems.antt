@@ -1,6 +1,6 @@
 -- What the grammar and the reading that is worked out have to do with each other.
-use Rattle.std.specs.Prelude.{◌≡◌, ℕ, ◌⊎◌, List, []}
-use Rattle.scan.specs.Readings.{Run, finished, stopped}
+use Rattle.std.specs.Prelude.{◌≡◌, ℕ, List, []}
+use Rattle.scan.specs.Readings.{finished, stopped}
 use Rattle.declarations.specs.Contents.{Placed}
 use Rattle.declarations.specs.Grammar.{Reads, UnreadAt, State}
 use Rattle.declarations.specs.Readers.{read_items}

@@ -3,7 +3,7 @@ use Rattle.std.proofs.Common.{◌≡◌, ℕ, zero, suc, ◌+◌, ◌-◌, ◌<�
 use Rattle.std.proofs.lemmas.List.{drop_more}
 use Rattle.std.proofs.lemmas.Bool.{false≢true}
 use Rattle.engine.specs.declared.range.ByteRange.{ByteRange}
-use Rattle.models.specs.Expressions.{Exp, atom, atoms}
+use Rattle.models.specs.Expressions.{Exp, atom}
 use Rattle.models.specs.declared.node.Node.TheVariants as node
 use Rattle.scan.specs.Bytes.{first_is}
 use Rattle.scan.specs.Readings.{Front, bad, got, word, Turn, over, stuck, next, Run, run, EndOf}

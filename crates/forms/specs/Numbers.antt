@@ -1,7 +1,6 @@
 -- Numbers of bytes, and ranges between two of them.
-use Rattle.std.specs.Prelude.{◌≡◌, ℕ, ◌+◌, ◌-◌, ◌*◌, ◌<◌, ◌≤◌, Bool, true, false, not, ◌&&◌, ◌||◌, List, [], ◌∷◌, ◌++◌, length, take, drop, fold, ◌==◌, nat_le, nat_lt, refl}
+use Rattle.std.specs.Prelude.{◌≡◌, ℕ, ◌+◌, ◌-◌, ◌*◌, ◌<◌, ◌≤◌, Bool, true, false, not, ◌&&◌, List, [], ◌∷◌, ◌++◌, length, take, drop, fold, ◌==◌, nat_le, nat_lt}
 use Rattle.std.proofs.Common.{ltb-true}
-use Rattle.engine.specs.declared.range.ByteRange.{ByteRange}
 use Rattle.std.specs.List.{prefix_len}
 use Rattle.scan.specs.Bytes.{within, first_is}
 use Rattle.scan.specs.Readings.{Front, bad, got}

@@ -1,5 +1,5 @@
 -- The grammar of value forms, worked out: functions that read at the front of a text.
-use Rattle.std.specs.Prelude.{◌≡◌, ℕ, zero, suc, ◌<◌, Bool, true, false, List, [], ◌∷◌, ◌++◌, codes, ◌==◌, nat_le, refl}
+use Rattle.std.specs.Prelude.{◌≡◌, ℕ, zero, suc, Bool, true, false, List, [], ◌∷◌, codes, ◌==◌, nat_le, refl}
 use Rattle.std.proofs.Common.{leb-true}
 use Rattle.engine.specs.declared.range.ByteRange.{ByteRange}
 use Rattle.models.specs.Expressions.{Exp, atom}

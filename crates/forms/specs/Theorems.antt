@@ -1,6 +1,6 @@
 -- What the grammar of forms and the reading that is worked out have to do with each other.
 use Rattle.std.specs.Prelude.{◌≡◌, ℕ, List, []}
-use Rattle.scan.specs.Readings.{Run, finished, stopped}
+use Rattle.scan.specs.Readings.{finished, stopped}
 use Rattle.forms.specs.Grammar.{Placed, Reads, UnreadAt, State}
 use Rattle.forms.specs.Readers.{read_lines}
 

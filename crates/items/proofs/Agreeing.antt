@@ -1,9 +1,9 @@
 -- Items: the reading that is worked out says what the grammar says, and a turn of the whole text is one item.
-use Rattle.std.proofs.Common.{◌≡◌, ℕ, ◌<◌, ◌≤◌, Bool, true, false, ◌||◌, eqb, ◌≢◌, ◌⊎◌, List, [], ◌∷◌, ◌++◌, length, codes, sym, refl, ap, ◌∙◌, subst, inl, inr, arith}
+use Rattle.std.proofs.Common.{◌≡◌, ℕ, ◌<◌, false, eqb, ◌≢◌, List, [], ◌∷◌, length, codes, sym, refl, ap, ◌∙◌, subst, inl, inr, arith}
 use Rattle.std.proofs.lemmas.Bool.{or_parts}
 use Rattle.scan.specs.Bytes.{first_is}
 use Rattle.scan.specs.Readings.{Front, bad, got, Agree, AtMostOne, Turn, over, stuck, next}
-use Rattle.scan.proofs.Agreements.{bad_got, chosen, chosen_false, at_most_one}
+use Rattle.scan.proofs.Agreements.{chosen, chosen_false, at_most_one}
 use Rattle.scan.proofs.Repeating.{Steps, over_next, stuck_next, stuck_over}
 use Rattle.items.specs.Grammar.{is_markup, ReadsItem, State, moved, OneItem}
 use Rattle.items.specs.Readers.{chars_from, as_chars, read_markup, read_reference, read_item, item_next, item_turn}
@@ -13,9 +13,9 @@ use Rattle.items.proofs.Texts.{text_sound, text_complete, text_unmarked, text_sh
 
 item_sound : (t : List ℕ) (v : Value) (rest : List ℕ) → read_item t ≡ got v rest → ReadsItem t v rest
 item_sound t v rest h =
-    chosen (first_is (eqb 60) t) _ _ (got v rest) (ReadsItem t v rest) h
+    chosen (first_is (eqb 60) t) h
     (λ is k. markup_sound t v rest k)
-    (λ is k. chosen (first_is (eqb 38) t) _ _ (got v rest) (ReadsItem t v rest) k
+    (λ is k. chosen (first_is (eqb 38) t) k
     (λ ref l. reference_sound t v rest l)
     (λ ref l. let (bytes, run, e) = text_sound t v rest l in subst (λ w. ReadsItem t w rest) e run))
 

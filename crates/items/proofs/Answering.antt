@@ -1,11 +1,11 @@
 -- Answers about the front of a text, carried from its parts.
-use Rattle.std.proofs.Common.{◌≡◌, ℕ, ◌+◌, ◌-◌, ◌<◌, ◌≤◌, Bool, true, false, not, ◌&&◌, List, [], ◌∷◌, ◌++◌, length, take, drop, Some, None, codes, Option, sym, refl, ap, ◌∙◌, subst, arith}
+use Rattle.std.proofs.Common.{◌≡◌, ℕ, ◌-◌, ◌≤◌, true, false, List, take, drop, Some, None, codes, Option, sym, refl, subst, arith}
 use Rattle.scan.specs.Bytes.{skip}
 use Rattle.scan.specs.Names.{Name, read_name}
-use Rattle.scan.specs.Readings.{Front, bad, got, word, Stands, EndOf}
-use Rattle.items.specs.Places.{ItemOf, said, spanned}
+use Rattle.scan.specs.Readings.{Front, bad, got, word, EndOf}
+use Rattle.items.specs.Places.{ItemOf, said}
 use Rattle.items.specs.Readers.{closed_with, first_of, end_named, end_opened, start_named, start_opened, commented, there}
-use Rattle.items.specs.Values.{Value, start_tag, empty_tag, end_tag, comment}
+use Rattle.items.specs.Values.{Value, start_tag, empty_tag, end_tag}
 use Rattle.items.specs.declared.item.Item.{Item}
 use Rattle.items.specs.declared.item.Kind.{Kind}
 use Rattle.items.specs.declared.item.Kind.TheVariants as kind

@@ -1,10 +1,10 @@
 -- Two texts, worked out by computing.
-use Rattle.std.proofs.Common.{◌≡◌, List, [], ◌∷◌, codes, refl}
+use Rattle.std.proofs.Common.{[], ◌∷◌, codes, refl}
 use Rattle.scan.specs.Bytes.{skip}
 use Rattle.scan.specs.Comments.{held, closed, comment_rest, behind_opening}
-use Rattle.scan.specs.Readings.{finished, stopped, turns, word}
+use Rattle.scan.specs.Readings.{turns, word}
 use Rattle.items.specs.Examples.{Worked, placed}
-use Rattle.items.specs.Readers.{closed_with, first_of, end_named, end_opened, start_named, start_opened, commented, chars_from, as_chars, item_next, item_turn, read_items}
+use Rattle.items.specs.Readers.{closed_with, first_of, end_named, end_opened, start_named, start_opened, commented, chars_from, as_chars, item_next, item_turn}
 use Rattle.items.specs.Values.{start_tag, empty_tag, end_tag, comment, reference, chars}
 use Rattle.items.proofs.Wholes.{items_are_read}
 

@@ -1,17 +1,16 @@
 -- A run of text, byte by byte.
-use Rattle.std.proofs.Common.{◌≡◌, ℕ, ◌+◌, ◌-◌, ◌<◌, ◌≤◌, min, Bool, true, false, not, ◌&&◌, ◌||◌, List, [], ◌∷◌, ◌++◌, length, get_or, take, drop, Some, None, codes, Option, sym, refl, ap, ◌∙◌, subst, ap₂, append_assoc, append-nil, arith, length-drop, length-take}
+use Rattle.std.proofs.Common.{◌≡◌, ℕ, ◌+◌, ◌-◌, ◌<◌, ◌≤◌, min, Bool, true, false, not, ◌&&◌, List, [], ◌∷◌, ◌++◌, length, get_or, take, drop, Some, None, codes, sym, refl, ap, ◌∙◌, subst, append_assoc, append-nil, arith, length-drop, length-take}
 use Rattle.std.proofs.lemmas.List.{drop_more, take_more, get_or-drop}
 use Rattle.std.proofs.lemmas.Bool.{both_ways, not-true, not-false}
 use Rattle.scan.specs.Bytes.{is_text_byte, first_is}
 use Rattle.scan.specs.Comments.{held}
-use Rattle.scan.specs.Readings.{Front, bad, got, word, Stands}
+use Rattle.scan.specs.Readings.{Front, bad, got, word}
 use Rattle.scan.proofs.Agreements.{chosen_true, chosen_false}
 use Rattle.scan.proofs.Fronts.{first_there}
 use Rattle.items.specs.Grammar.{is_markup}
-use Rattle.items.specs.Places.{ItemOf, spanned}
+use Rattle.items.specs.Places.{ItemOf}
 use Rattle.items.specs.Readers.{chars_from, as_chars, there}
-use Rattle.items.specs.Values.{Value, chars}
-use Rattle.items.specs.declared.item.Item.{Item}
+use Rattle.items.specs.Values.{chars}
 use Rattle.items.specs.declared.item.Kind.TheVariants as kind
 
 -- A byte that begins no markup; and one that may stand in text where no `]]>` begins.

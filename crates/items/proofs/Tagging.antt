@@ -1,15 +1,15 @@
 -- Tags, comments and references: the readings that are worked out say what the grammar says.
-use Rattle.std.proofs.Common.{◌≡◌, ℕ, ◌<◌, ◌≤◌, Bool, true, false, eqb, ◌⊎◌, List, [], ◌∷◌, ◌++◌, length, codes, sym, refl, ap, ◌∙◌, subst, inl, inr, arith}
+use Rattle.std.proofs.Common.{◌≡◌, ℕ, ◌<◌, Bool, true, false, eqb, ◌⊎◌, List, [], ◌∷◌, length, codes, sym, refl, ap, ◌∙◌, subst, inl, inr, arith}
 use Rattle.std.proofs.lemmas.List.{length-append}
 use Rattle.std.proofs.lemmas.Bool.{eqb-true, both_ways}
 use Rattle.scan.specs.Bytes.{is_initial, first_is, skip}
 use Rattle.scan.specs.Comments.{ReadsComment, behind_opening, read_comment}
-use Rattle.scan.specs.Names.{Name, ReadsName, read_name}
+use Rattle.scan.specs.Names.{Name, read_name}
 use Rattle.scan.specs.Readings.{Front, bad, got, word}
 use Rattle.scan.proofs.Agreements.{bad_got, got_value, got_rest, chosen_false, skip_le, word_sound, word_agrees, name_agrees, name_initial, name_shortens, comment_agrees, comment_shortens}
 use Rattle.items.specs.Grammar.{Tag, STag, EmptyElemTag, ETag, EntityRef, ReadsItem}
 use Rattle.items.specs.Readers.{closed_with, first_of, end_named, end_opened, start_named, start_opened, commented, read_markup, read_reference}
-use Rattle.items.specs.Values.{Value, start_tag, empty_tag, end_tag, comment, reference, chars}
+use Rattle.items.specs.Values.{Value, start_tag, empty_tag, end_tag, comment, reference}
 
 closed_from : (v : Value) (f : Front (Unit {0})) (w : Value) (rest : List ℕ) → closed_with v f ≡ got w rest → (f ≡ got tt rest) × (v ≡ w)
 unfolding closed_with

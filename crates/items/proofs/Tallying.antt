@@ -1,12 +1,12 @@
 -- Counting the items of a text, one by one.
-use Rattle.std.proofs.Common.{◌≡◌, ℕ, ◌+◌, ◌-◌, ◌<◌, ◌≤◌, ◌≢◌, List, [], ◌∷◌, ◌++◌, length, drop, Some, None, Ok, Err, Option, sym, refl, ap, ◌∙◌, subst, arith, length-drop}
+use Rattle.std.proofs.Common.{◌≡◌, ℕ, ◌+◌, ◌-◌, ◌<◌, ◌≤◌, List, [], ◌∷◌, ◌++◌, length, drop, Some, None, Ok, Err, sym, refl, ap, ◌∙◌, subst, arith, length-drop}
 use Rattle.std.proofs.lemmas.List.{drop_all, length-append}
-use Rattle.scan.specs.Readings.{Front, bad, got, Stands, Repeats, none, more}
+use Rattle.scan.specs.Readings.{Front, bad, got, Repeats, none, more}
 use Rattle.scan.proofs.Agreements.{bad_got}
 use Rattle.items.specs.Grammar.{ReadsItem, State, moved, OneItem, beginning}
 use Rattle.items.specs.Places.{ItemOf, Counted}
 use Rattle.items.specs.Readers.{read_item}
-use Rattle.items.specs.Values.{Value, Placed}
+use Rattle.items.specs.Values.{Value}
 use Rattle.items.specs.declared.item.Item.{Item}
 use Rattle.items.proofs.Agreeing.{item_agrees, item_shortens}
 

@@ -1,7 +1,7 @@
 -- Runs of text: the reading that is worked out says what the grammar says.
-use Rattle.std.proofs.Common.{◌≡◌, ℕ, ◌+◌, ◌<◌, ◌≤◌, Bool, true, false, not, ◌&&◌, ◌||◌, ◌≢◌, ◌⊎◌, List, [], ◌∷◌, ◌++◌, length, codes, sym, refl, ap, ◌∙◌, subst, ap₂, inl, inr, append_assoc, arith}
+use Rattle.std.proofs.Common.{◌≡◌, ℕ, ◌<◌, Bool, true, false, not, ◌&&◌, ◌≢◌, ◌⊎◌, List, [], ◌∷◌, ◌++◌, length, codes, sym, refl, ap, ◌∙◌, subst, inl, inr, arith}
 use Rattle.std.proofs.lemmas.List.{length-append}
-use Rattle.std.proofs.lemmas.Bool.{both_ways, not-true, not-false, not_from_false, not_from_true, and_parts, and_from}
+use Rattle.std.proofs.lemmas.Bool.{both_ways, not-true, not_from_false, and_parts, and_from}
 use Rattle.scan.specs.Bytes.{is_text_byte, first_is}
 use Rattle.scan.specs.Comments.{held}
 use Rattle.scan.specs.Readings.{Front, bad, got, word}
@@ -9,7 +9,7 @@ use Rattle.scan.proofs.Agreements.{bad_got, got_value, got_rest, chosen, chosen_
 use Rattle.items.specs.Grammar.{is_markup, all_chars, CharData}
 use Rattle.items.specs.Readers.{chars_from, as_chars, there}
 use Rattle.items.specs.Values.{Value, chars}
-use Rattle.items.proofs.Running.{unmarked, allowed, chars_more}
+use Rattle.items.proofs.Running.{allowed, chars_more}
 
 -- `]]>` stands nowhere in the bytes; the rest ends a run.
 abbrev pub Unclosed : List ℕ → Type 0
@@ -61,9 +61,9 @@ unfolding chars_from
 chars_sound [] bytes rest h =
     subst (λ l. Chars [] l rest) (got_value h) (subst (Chars [] []) (got_rest h) (record { whole = refl; plain = refl; unclosed = nothing_closed; longest = inl refl }))
 chars_sound (b ∷ t) bytes rest h =
-    chosen (is_markup b) _ _ (got bytes rest) (Chars (b ∷ t) bytes rest) h
+    chosen (is_markup b) h
     (λ m k. subst (λ l. Chars (b ∷ t) l rest) (got_value k) (subst (Chars (b ∷ t) []) (got_rest k) (record { whole = refl; plain = refl; unclosed = nothing_closed; longest = inr m })))
-    (λ m k. chosen (allowed (b ∷ t)) _ _ (got bytes rest) (Chars (b ∷ t) bytes rest) k
+    (λ m k. chosen (allowed (b ∷ t)) k
     (λ ok l. more m ok (held_from b (chars_from t) bytes rest l) (λ bs e. chars_sound t bs rest e))
     (λ ok l. absurd (bad_got l)))
   where

@@ -1,5 +1,5 @@
 -- Two texts, worked out.
-use Rattle.std.specs.Prelude.{ℕ, List, [], ◌∷◌, codes}
+use Rattle.std.specs.Prelude.{ℕ, [], ◌∷◌, codes}
 use Rattle.items.specs.Grammar.{Reads, UnreadAt}
 use Rattle.items.specs.Values.{Value, start_tag, empty_tag, end_tag, comment, reference, chars, Placed}
 

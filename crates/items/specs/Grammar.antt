@@ -1,6 +1,6 @@
 -- The grammar of a document's items: each relation says what is read at the front of a text and what is left. The names
 -- are those of the productions of XML 1.0; a tag has no attributes here.
-use Rattle.std.specs.Prelude.{◌≡◌, ℕ, ◌+◌, ◌-◌, Bool, true, false, not, ◌&&◌, ◌||◌, ◌≢◌, ◌⊎◌, List, [], ◌∷◌, ◌++◌, length, codes, ◌==◌}
+use Rattle.std.specs.Prelude.{◌≡◌, ℕ, ◌+◌, ◌-◌, Bool, true, not, ◌&&◌, ◌||◌, ◌≢◌, ◌⊎◌, List, [], ◌∷◌, ◌++◌, length, codes, ◌==◌}
 use Rattle.scan.specs.Bytes.{is_text_byte, first_is, skip}
 use Rattle.scan.specs.Comments.{ReadsComment}
 use Rattle.scan.specs.Names.{Name, ReadsName}

@@ -1,11 +1,11 @@
 -- The end of a name.
-use Rattle.std.proofs.Common.{◌≡◌, ℕ, ◌+◌, ◌-◌, ◌<◌, ◌≤◌, Bool, true, false, cond, ◌&&◌, ◌||◌, leb, ◌⊎◌, List, [], ◌∷◌, length, get_or, take, drop, Some, None, Option, sym, refl, ap, ◌∙◌, subst, ap₂, inl, inr, arith, length-drop, drop-drop}
+use Rattle.std.proofs.Common.{◌≡◌, ℕ, ◌+◌, ◌-◌, ◌<◌, ◌≤◌, Bool, true, false, cond, ◌&&◌, leb, List, length, get_or, take, drop, Some, None, Option, sym, refl, ap, ◌∙◌, subst, ap₂, inl, inr, arith, length-drop, drop-drop}
 use Rattle.std.specs.List.{prefix_len}
 use Rattle.std.proofs.lemmas.List.Sums.{prefix_len-drop_yes, prefix_len-drop_no, prefix_len-drop_all, prefix_len-le-length}
-use Rattle.std.proofs.lemmas.Bool.{cases_lt, both_ways, le-leb, lt-leb, and_from, and_left, and_right, cond-true, cond-false}
+use Rattle.std.proofs.lemmas.Bool.{cases_lt, le-leb, lt-leb, and_from, and_left, and_right, cond-true, cond-false}
 use Rattle.scan.specs.Bytes.{is_initial, is_name_byte, first_is}
-use Rattle.scan.specs.Names.{Name, read_name}
-use Rattle.scan.specs.Readings.{Front, bad, got, Stands, EndOf}
+use Rattle.scan.specs.Names.{read_name}
+use Rattle.scan.specs.Readings.{bad, got, EndOf}
 use Rattle.scan.proofs.Fronts.{first_inside, first_past, first_there}
 
 -- One more name byte, and none.

@@ -1,11 +1,11 @@
 -- The end of a comment.
-use Rattle.std.proofs.Common.{◌≡◌, ℕ, ◌+◌, ◌-◌, ◌<◌, ◌≤◌, Bool, true, false, ◌&&◌, eqb, ◌⊎◌, List, [], ◌∷◌, length, get_or, drop, Some, None, codes, Option, sym, refl, ap, ◌∙◌, subst, ap₂, inl, inr, arith}
+use Rattle.std.proofs.Common.{◌≡◌, ℕ, ◌+◌, ◌<◌, ◌≤◌, Bool, true, false, ◌&&◌, eqb, List, ◌∷◌, length, get_or, drop, Some, None, codes, Option, sym, ap, ◌∙◌, subst, arith}
 use Rattle.std.proofs.lemmas.List.{drop_more, drop_all}
 use Rattle.std.proofs.lemmas.Bool.Decides.{nat_tests}
 use Rattle.scan.specs.Bytes.{first_is, is_text_byte}
-use Rattle.scan.specs.Comments.{comment_rest, held, closed, behind_opening, read_comment}
-use Rattle.scan.specs.Readings.{Front, bad, got, word, Stands, EndOf}
-use Rattle.scan.proofs.Fronts.{first_inside, first_there}
+use Rattle.scan.specs.Comments.{comment_rest, held, closed, behind_opening}
+use Rattle.scan.specs.Readings.{Front, bad, got, word, EndOf}
+use Rattle.scan.proofs.Fronts.{first_inside}
 
 -- A place further back does, and so do a value made from another and the text's rest alone.
 pub end_back : {A : Type 0} (text : List ℕ) (at here : ℕ) (f : Front A) (r : Option ℕ) → at ≤ here → EndOf text here f r → EndOf text at f r

@@ -1,6 +1,6 @@
 -- Repeated readings, turn by turn: how many turns are allowed does not matter, as long as there are more than bytes.
-use Rattle.std.proofs.Common.{◌≡◌, ℕ, zero, suc, ◌<◌, ◌≤◌, List, [], ◌∷◌, length, sym, refl, ap, ◌∙◌, arith}
-use Rattle.scan.specs.Readings.{Turn, over, stuck, next, Run, finished, stopped, turns, run, Shrinks}
+use Rattle.std.proofs.Common.{◌≡◌, ℕ, zero, suc, ◌<◌, List, length, sym, refl, ◌∙◌, arith}
+use Rattle.scan.specs.Readings.{Turn, over, stuck, next, finished, stopped, turns, run, Shrinks}
 
 module _ {S : Type 0} (turn : S → List ℕ → Turn S) where
   -- One turn of as many as are left.

@@ -1,10 +1,9 @@
 -- The end of a word.
-use Rattle.std.proofs.Common.{◌≡◌, ℕ, ◌+◌, ◌-◌, ◌<◌, ◌≤◌, Bool, true, false, eqb, ◌⊎◌, List, [], ◌∷◌, length, get_or, drop, Some, None, Option, sym, refl, ap, ◌∙◌, subst, ap₂, inl, inr, arith}
+use Rattle.std.proofs.Common.{◌≡◌, ℕ, ◌+◌, ◌<◌, ◌≤◌, true, false, eqb, List, [], ◌∷◌, length, get_or, drop, Some, None, sym, refl, ap, ◌∙◌, subst, ap₂, arith}
 use Rattle.std.proofs.lemmas.List.{drop_more, drop_all}
-use Rattle.std.proofs.lemmas.Bool.{cases_lt, both_ways}
 use Rattle.scan.specs.Bytes.{first_is}
-use Rattle.scan.specs.Readings.{Front, bad, got, word, Stands, EndOf}
-use Rattle.scan.proofs.Fronts.{first_inside, first_past, first_there}
+use Rattle.scan.specs.Readings.{bad, got, word, EndOf}
+use Rattle.scan.proofs.Fronts.{first_inside, first_there}
 
 word_step : (c : ℕ) (cs t : List ℕ) (b : ℕ) → eqb c b ≡ true → word (c ∷ cs) (b ∷ t) ≡ word cs t
 unfolding word

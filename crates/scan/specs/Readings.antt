@@ -1,5 +1,5 @@
 -- What is read at the front of a text, and what is read turn by turn.
-use Rattle.std.specs.Prelude.{◌≡◌, ℕ, zero, suc, ◌<◌, ◌≤◌, true, false, List, [], ◌∷◌, ◌++◌, length, drop, Some, None, Option, ◌==◌}
+use Rattle.std.specs.Prelude.{◌≡◌, ℕ, zero, suc, ◌<◌, ◌≤◌, true, false, List, [], ◌∷◌, length, drop, Some, None, Option, ◌==◌}
 
 -- A reading at the front of a text: nothing of the form stands there, or a value was read and a rest is left.
 pub data Front (A : Type 0) : Type 0 where

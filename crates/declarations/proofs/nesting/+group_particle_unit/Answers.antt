@@ -2,7 +2,6 @@ use Rattle.std.proofs.Common.{◌+◌, ◌-◌, [], ◌∷◌, drop, Some, sym, 
 use Rattle.models.specs.Expressions.{atom}
 use Rattle.declarations.specs.Answers.{Nodes, numbered_names}
 use Rattle.declarations.specs.Inner.{ExpressionAt, read_unit}
-use Rattle.declarations.specs.Grammar.{sign}
 use Rattle.declarations.specs.Models.{names_in, numbered}
 use Rattle.declarations.specs.Readers.{read_cp, read_group}
 use Rattle.declarations.proofs.Groups.{Going, group_none, group_bad, group_first, group_over, group_stuck, group_no_member, group_member, group_zero}

@@ -19,20 +19,20 @@ expression-returns-in_err-opened t c =
     expression_none c.args.text.now c.args.at c.args.nodes.now c.args.used (read_expression c.args.left front) c.from_residual.result c.args.nodes.now c.from_residual.ensures
     (some_left c.args.left front c.if-left-eq0.false ∙ c.in_err-opened.ensures (read_expression (c.args.left - 1)))
 
-pub expression-returns-in_err-ranged : goal.expression-returns-in_err-ranged
-expression-returns-in_err-ranged t c =
+pub expression-returns-in_err-ranged-in-Range : goal.expression-returns-in_err-ranged-in-Range
+expression-returns-in_err-ranged-in-Range t c =
     let text = c.args.text.now in
     let opened = c.in_ok-opened.opened in
-    expression_none text c.args.at c.args.nodes.now c.args.used (read_expression c.args.left (drop c.args.at text)) c.from_residual-in_err-ranged.result c.args.nodes.now c.from_residual-in_err-ranged.ensures
-    (reads_opened text c.args.at c.args.left opened Range c.if-left-eq0.false c.in_ok-opened.ensures c.in-Range.is ∙ c.in_err-ranged.ensures)
+    expression_none text c.args.at c.args.nodes.now c.args.used (read_expression c.args.left (drop c.args.at text)) c.from_residual-in_err-ranged-in-Range.result c.args.nodes.now c.from_residual-in_err-ranged-in-Range.ensures
+    (reads_opened text c.args.at c.args.left opened Range c.if-left-eq0.false c.in_ok-opened.ensures c.in-Range.is ∙ c.in_err-ranged-in-Range.ensures)
 
-pub expression-returns-in_ok-ranged : goal.expression-returns-in_ok-ranged
-expression-returns-in_ok-ranged t c =
+pub expression-returns-in_ok-ranged-in-Range : goal.expression-returns-in_ok-ranged-in-Range
+expression-returns-in_ok-ranged-in-Range t c =
     let text = c.args.text.now in
     let opened = c.in_ok-opened.opened in
-    range_there text c.args.at opened.end (read_expression c.args.left (drop c.args.at text)) c.args.nodes.now c.args.used c.in_ok-ranged.ranged c.write_range.result c.write_range.new.nodes c.in_ok-opened.ensures.0
+    range_there text c.args.at opened.end (read_expression c.args.left (drop c.args.at text)) c.args.nodes.now c.args.used c.in_ok-ranged-in-Range.ranged c.write_range.result c.write_range.new.nodes c.in_ok-opened.ensures.0
     (reads_opened text c.args.at c.args.left opened Range c.if-left-eq0.false c.in_ok-opened.ensures c.in-Range.is)
-    c.in_ok-ranged.ensures c.write_range.ensures.part c.write_range.ensures.written
+    c.in_ok-ranged-in-Range.ensures c.write_range.ensures.part c.write_range.ensures.written
 
 pub expression-returns-in-Members : goal.expression-returns-in-Members
 expression-returns-in-Members t c =

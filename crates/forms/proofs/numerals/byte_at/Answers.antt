@@ -10,4 +10,4 @@ returns-then-not-is_plain c =
 
 pub returns : goal.returns
 returns c =
-    is_read c.args.text.now c.args.at c.digits_at-digits.result c.digits_at-digits.ensures c.if-digits_at.false c.if-digits-gt-LARGEST.false c.if-not-is_plain.ensures
+    is_read c.args.text.now c.args.at c.digits_at-digits.result c.digits_at-digits.ensures c.if-digits-at.false c.if-digits-gt-LARGEST.false c.if-not-is_plain.ensures

@@ -1,4 +1,4 @@
-use Rattle.std.proofs.Common.{◌≤◌, drop, sym, subst, arith, lit<}
+use Rattle.std.proofs.Common.{◌≤◌, drop, sym, subst, arith}
 use Rattle.scan.specs.Names.{read_name}
 use Rattle.items.specs.Places.{ItemOf}
 use Rattle.items.specs.Readers.{start_named}

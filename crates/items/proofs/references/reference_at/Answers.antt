@@ -1,4 +1,4 @@
-use Rattle.std.proofs.Common.{Some, lit<}
+use Rattle.std.proofs.Common.{lit<}
 use Rattle.items.proofs.Answering.{first_some, first_none}
 use Rattle.items.proofs.references.reference_at.Goals as goal
 

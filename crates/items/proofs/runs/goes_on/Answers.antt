@@ -1,6 +1,5 @@
-use Rattle.std.proofs.Common.{◌≡◌, ◌<◌, ◌≤◌, not, length, sym, ap, ◌∙◌, arith}
+use Rattle.std.proofs.Common.{◌<◌, ◌≤◌, not, length, sym, ap, ◌∙◌, arith}
 use Rattle.std.proofs.lemmas.Bool.{le-ltb}
-use Rattle.scan.specs.Bytes.{is_text_byte}
 use Rattle.scan.proofs.Fronts.{first_inside, first_past}
 use Rattle.items.specs.Grammar.{is_markup}
 use Rattle.items.proofs.runs.goes_on.Goals as goal

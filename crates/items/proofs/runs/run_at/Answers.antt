@@ -1,4 +1,4 @@
-use Rattle.std.proofs.Common.{◌≡◌, ◌<◌, length, sym, ◌∙◌, arith, rules}
+use Rattle.std.proofs.Common.{◌<◌, length, sym, ◌∙◌, arith, rules}
 use Rattle.scan.proofs.Fronts.{first_there}
 use Rattle.items.proofs.Running.{unmarked, running_start, running_more, running_bad, running_none, running_all}
 use Rattle.items.proofs.runs.run_at.Goals as goal

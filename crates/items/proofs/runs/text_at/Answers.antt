@@ -1,8 +1,7 @@
-use Rattle.std.proofs.Common.{◌≡◌, ◌<◌, ◌≤◌, not, length, sym, ap, ◌∙◌, arith}
+use Rattle.std.proofs.Common.{◌<◌, ◌≤◌, length, sym, ◌∙◌, arith}
 use Rattle.std.proofs.lemmas.Bool.{le-ltb}
 use Rattle.scan.specs.Bytes.{is_text_byte}
 use Rattle.scan.proofs.Fronts.{first_inside, first_past}
-use Rattle.items.specs.Grammar.{is_markup}
 use Rattle.items.proofs.runs.text_at.Goals as goal
 
 pub returns-then-at-text : goal.returns-then-at-text

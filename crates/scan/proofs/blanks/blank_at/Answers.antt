@@ -1,4 +1,4 @@
-use Rattle.std.proofs.Common.{◌≡◌, ◌<◌, ◌≤◌, length, sym, ◌∙◌, arith}
+use Rattle.std.proofs.Common.{◌<◌, ◌≤◌, length, sym, ◌∙◌, arith}
 use Rattle.scan.specs.Bytes.{is_blank}
 use Rattle.std.proofs.lemmas.Bool.{le-ltb}
 use Rattle.scan.proofs.Fronts.{first_inside, first_past}

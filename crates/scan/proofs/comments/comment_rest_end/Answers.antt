@@ -1,4 +1,4 @@
-use Rattle.std.proofs.Common.{◌≡◌, ◌+◌, ◌<◌, ◌≤◌, None, sym, ◌∙◌, arith, lit<}
+use Rattle.std.proofs.Common.{None, sym, ◌∙◌, arith, lit<}
 use Rattle.scan.proofs.Remarks.{end_dashes, end_plain, end_bad, end_nothing}
 use Rattle.scan.proofs.comments.comment_rest_end.Goals as goal
 

@@ -1,4 +1,4 @@
-use Rattle.std.proofs.Common.{◌≡◌, ◌<◌, eqb, length, sym, ◌∙◌, arith, rules}
+use Rattle.std.proofs.Common.{◌<◌, eqb, length, sym, ◌∙◌, rules}
 use Rattle.std.proofs.lemmas.Bool.{and_left}
 use Rattle.scan.proofs.Fronts.{first_there}
 use Rattle.scan.proofs.comments.two_dashes.Goals as goal

@@ -1,4 +1,4 @@
-use Rattle.std.proofs.Common.{◌≡◌, cond, sym, ◌∙◌}
+use Rattle.std.proofs.Common.{cond, sym, ◌∙◌}
 use Rattle.scan.specs.Bytes.{is_initial, is_name_byte}
 use Rattle.scan.proofs.Naming.{width_past, width_one, width_zero}
 use Rattle.scan.proofs.names.name_char.Goals as goal

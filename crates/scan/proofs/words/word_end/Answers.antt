@@ -1,4 +1,4 @@
-use Rattle.std.proofs.Common.{◌≡◌, ◌+◌, ◌<◌, ◌≤◌, true, false, eqb, length, get_or, drop, Some, None, sym, ap, ◌∙◌, arith, rules}
+use Rattle.std.proofs.Common.{◌≡◌, ◌<◌, true, eqb, length, get_or, drop, Some, sym, ap, ◌∙◌, arith, rules}
 use Rattle.scan.specs.Bytes.{first_is}
 use Rattle.scan.proofs.Fronts.{first_there}
 use Rattle.scan.proofs.Wording.{reached_more, reached_none, reached_all}
