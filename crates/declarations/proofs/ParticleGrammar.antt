@@ -6,7 +6,7 @@ use Rattle.scan.specs.Bytes.{is_initial, first_is}
 use Rattle.scan.specs.Names.{Name, read_name}
 use Rattle.scan.specs.Readings.{Front, bad, got, Agree}
 use Rattle.scan.proofs.Agreements.{bad_got, got_value, got_rest, chosen, chosen_true, chosen_false, Shortens, name_agrees, name_initial, name_shortens}
-use Rattle.declarations.specs.Grammar.{Unit_of, Cp}
+use Rattle.declarations.specs.Grammar.{UnitOf, Cp}
 use Rattle.declarations.specs.Readers.{named, read_cp}
 use Rattle.declarations.proofs.MarkGrammar.{marked_from, marked_by, mark_le}
 
@@ -25,13 +25,13 @@ module _ (read : List ℕ → Front (Exp Name)) (Group : List ℕ → Exp Name �
   abbrev read_unit : List ℕ → Front (Exp Name)
   read_unit t = elim (first_is is_initial t) [ true ↦ named (read_name t) | false ↦ read t ]
 
-  unit_sound : (t : List ℕ) (e : Exp Name) (rest : List ℕ) → read_unit t ≡ got e rest → Unit_of Group t e rest
+  unit_sound : (t : List ℕ) (e : Exp Name) (rest : List ℕ) → read_unit t ≡ got e rest → UnitOf Group t e rest
   unit_sound t e rest h =
       chosen (first_is is_initial t) h
       (λ test k. let (name, r, is) = named_from (read_name t) e rest k in inl (name, name_agrees.sound t name rest r, is))
       (λ test k. inr (grouping.agree.sound t e rest k))
 
-  unit_complete : (t : List ℕ) (e : Exp Name) (rest : List ℕ) → Unit_of Group t e rest → read_unit t ≡ got e rest
+  unit_complete : (t : List ℕ) (e : Exp Name) (rest : List ℕ) → UnitOf Group t e rest → read_unit t ≡ got e rest
   unfolding named
   unit_complete t e rest (inl (name, r, is)) =
       chosen_true (first_is is_initial t) (named (read_name t)) (read t) (name_initial t name rest r)

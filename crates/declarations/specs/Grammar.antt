@@ -39,12 +39,12 @@ join by_bar e f = alt e f
 -- What a particle may be besides a name: a group in brackets, which is described by the relation `Group`.
 module _ (Group : List ℕ → Exp Name → List ℕ → Type 0) where
   -- Name | choice | seq
-  abbrev pub Unit_of : List ℕ → Exp Name → List ℕ → Type 0
-  Unit_of text e rest = ((name : Name) × ReadsName text name rest × (e ≡ atom name)) ⊎ Group text e rest
+  abbrev pub UnitOf : List ℕ → Exp Name → List ℕ → Type 0
+  UnitOf text e rest = ((name : Name) × ReadsName text name rest × (e ≡ atom name)) ⊎ Group text e rest
 
   -- cp ::= (Name | choice | seq) ('?' | '*' | '+')?
   abbrev pub Cp : List ℕ → Exp Name → List ℕ → Type 0
-  Cp text e rest = (inner : Exp Name) × (mid : List ℕ) × Unit_of text inner mid × Mark inner mid e rest
+  Cp text e rest = (inner : Exp Name) × (mid : List ℕ) × UnitOf text inner mid × Mark inner mid e rest
 
   -- One more member of a group: S? and a comma or bar, S? and a particle. It is joined to those before it.
   abbrev pub Member : Joint → Exp Name → List ℕ → Exp Name → List ℕ → Type 0

@@ -105,10 +105,10 @@ new_at text entries found k entry number list at is =
 pub answered : (asks : Ask) (text : List ℕ) (entries : List Entry) (found : List Placed) (k : ℕ) (entry : Entry) (number : ℕ) (told : Declared) → Listed text entries found → Ready asks found → (at : At text found k entry) → number ≡ number_of (names_at text (take 63 entries)) (name_at text entry) → Told text found entry at.it.declaration told → admitted asks number k told ≡ asked_by asks (declared_names found) (take k found) at.it
 answered ask.Atoms text entries found k entry number told list ready at is says = ap (λ n. leb n 63) says.1.atom_count
 answered ask.NewName text entries found k entry number told list ready at is says = new_at text entries found k entry number list at is
-answered ask.Known text entries found k entry number told list ready at is says = says.1.all_Known
+answered ask.Known text entries found k entry number told list ready at is says = says.1.all_known
 answered ask.Once text entries found k entry number told list ready at is says =
     let yes-there = yes_at (names_declared most (declared_names found)) [] found k at.it (none_yes (names_declared most (declared_names found)) [] found ready) at.there at.is in
-    says.1.differ (says.1.all_Known ∙ yes-there.1)
+    says.1.differ (says.1.all_known ∙ yes-there.1)
 
 -- Places that are left are enough for the nodes exactly when all fit.
 pub fits_at : (limit left nodes : ℕ) (names : List Name) (before : List Placed) (p : Placed) → left + nodes_of names before ≡ limit → nodes ≡ length (code (model_of names p)) → nodes ≤ left → fit_in limit names before p ≡ true

@@ -9,7 +9,7 @@ use Rattle.scan.specs.Lists.{number_of}
 use Rattle.scan.specs.Names.{Name}
 use Rattle.scan.specs.Readings.{Repeats, none, more}
 use Rattle.declarations.specs.Contents.{Content, nothing, anything, mixed, children}
-use Rattle.declarations.specs.Grammar.{Joint, by_comma, by_bar, join, Mark, Unit_of, Cp, Member, Choice, Seq, Group, Children, ContentSpec, deepest}
+use Rattle.declarations.specs.Grammar.{Joint, by_comma, by_bar, join, Mark, UnitOf, Cp, Member, Choice, Seq, Group, Children, ContentSpec, deepest}
 use Rattle.declarations.specs.Models.{numbered, or_names, model}
 
 -- No empty word is in it.
@@ -23,7 +23,7 @@ module _ (G : List ℕ → Exp Name → List ℕ → Type 0) (full : (t : List �
   marked_full e t m r f (inr (inr (inl (a, b)))) = ap empties b ∙ f
   marked_full e t m r f (inr (inr (inr (a, b, c)))) = ap empties c ∙ f
 
-  unit_full : (t : List ℕ) (e : Exp Name) (r : List ℕ) → Unit_of G t e r → Full e
+  unit_full : (t : List ℕ) (e : Exp Name) (r : List ℕ) → UnitOf G t e r → Full e
   unit_full t e r (inl (name, h, is)) = ap empties is
   unit_full t e r (inr h) = full t e r h
 

@@ -7,4 +7,4 @@ use Rattle.drafts.proofs.draft.Draft.empty.Goals as goal
 
 pub invariant_of-result : goal.invariant_of-result
 unfolding turns item found_in ask_all first_no judge_items or_ask
-invariant_of-result c = (refl, (refl, (refl, (refl, (refl, tt)))))
+invariant_of-result c = record { asked = refl; counted = refl; coded = refl; placed = refl; named = refl }

@@ -9,10 +9,14 @@ use Rattle.drafts.proofs.draft.Draft.read.Goals as goal
 pub invariant_of-self : goal.invariant_of-self
 invariant_of-self c =
     let told = c.in-Ok.ensures in
-    let room = room_of c.replace-nodes.result.now c.replace-models.result.now c.replace-entries.result.now in (
-      enough_room room c.args.text.now (ap is_accepted told.0),
-      (told.1, (told.2.nodes_are, (told.2.models_are, (told.2.entries_are, tt)))),
-    )
+    let room = room_of c.replace-nodes.result.now c.replace-models.result.now c.replace-entries.result.now in
+    record {
+      asked = enough_room room c.args.text.now (ap is_accepted told.0);
+      counted = told.1;
+      coded = told.2.nodes_are;
+      placed = told.2.models_are;
+      named = told.2.entries_are;
+    }
 
 pub returns-in-Ok : goal.returns-in-Ok
 returns-in-Ok c =
