@@ -1,6 +1,6 @@
 // Sealed declarations, which hold their tables for reading only.
 
-mod sealing;
+mod making;
 
 ghost use Rattle.std.specs.Prelude.{◌≡◌, length};
 ghost use Rattle.drafts.specs.Drafted.{declarations, text_models};

@@ -11,4 +11,4 @@ pub invariant_of-result : goal.invariant_of-result
 unfolding turns item found_in
 invariant_of-result c =
     let P : List (Node ContentAtom) → Type 0 = λ ns. ns ≡ replicate (length ns - 0) Unused in
-    (refl, (∣ subst P (sym c.empty.ensures.tables.0) refl ∣₁, (∣ c.empty.ensures.tables.1 ∣₁, tt)))
+    record { named = refl; coded = ∣ subst P (sym c.empty.ensures.tables.0) refl ∣₁; placed = ∣ c.empty.ensures.tables.1 ∣₁ }

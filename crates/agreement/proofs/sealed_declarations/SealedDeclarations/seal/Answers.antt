@@ -44,13 +44,12 @@ invariant_of-self c =
     let held = c.in_default.ensures.tables in
     let P : List (Node ContentAtom) → Type 0 = λ ns. ns ≡ filled Unused (length ns) (all_code (text_models c.text.result.now)) in
     let t : c.args.draft.now.text.now ≡ c.text.result.now = sym c.text.ensures in
-    let coded : P c.nodes.result.now = subst (λ x. c.nodes.result.now ≡ filled Unused (length c.nodes.result.now) (all_code (text_models x))) t c.nodes.ensures in (
-      subst (λ x. c.entries-2.result.now ≡ entries_of x (declarations x)) t c.entries-2.ensures,
-      (
-        ∣ subst P (sym held.0) coded ∣₁,
-        (∣ held.1 ∙ c.models.ensures ∙ ap (λ x. runs_from 0 (text_models x)) t ∣₁, tt),
-      ),
-    )
+    let coded : P c.nodes.result.now = subst (λ x. c.nodes.result.now ≡ filled Unused (length c.nodes.result.now) (all_code (text_models x))) t c.nodes.ensures in
+    record {
+      named = subst (λ x. c.entries-2.result.now ≡ entries_of x (declarations x)) t c.entries-2.ensures;
+      coded = ∣ subst P (sym held.0) coded ∣₁;
+      placed = ∣ held.1 ∙ c.models.ensures ∙ ap (λ x. runs_from 0 (text_models x)) t ∣₁;
+    }
 
 pub returns : goal.returns
 returns c =

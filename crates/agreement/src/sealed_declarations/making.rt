@@ -1,12 +1,12 @@
 // Sealing a draft.
 
 ghost use Rattle.std.specs.Prelude.{◌≡◌, [], MatchResult, OnOk};
-ghost use Rattle.sealed.specs.contracts.sealed.SealedEngine.TheImpl.{ghosts as meaning};
 ghost use Rattle.agreement.specs.Sealing.{SealAnswer, SpeaksText};
 
 use super::super::places::refuse;
 use super::SealedDeclarations;
 use drafts::{Draft, Refusal};
+use engine::Engine;
 use sealed::Sealed;
 
 impl<'t, 'n, 'm, 'e> SealedDeclarations<'t, 'n, 'm, 'e> {
@@ -26,7 +26,7 @@ impl<'t, 'n, 'm, 'e> SealedDeclarations<'t, 'n, 'm, 'e> {
     pub fn seal(&mut self, draft: &mut Draft<'t, 'n, 'm, 'e>) -> Result<(), Refusal>
         ensures answer { SealAnswer draft.old.text.now result }
         ensures made { MatchResult result (λ _. (self.new.text.now ≡ draft.old.text.now) × (draft.new.text.now ≡ [])) (λ _. (self.new ≡ self.old) × (draft.new ≡ draft.old)) }
-        ensures languages { OnOk result (SpeaksText draft.old.text.now (meaning.language self.new.tables)) }
+        ensures languages { OnOk result (SpeaksText draft.old.text.now (⟦<Sealed<'n, 'm> as Engine>⟧.language self.new.tables)) }
     {
         let mut tables = Sealed::empty();
         if let Err(why) = tables.fill(draft.nodes(), draft.models()) {
