@@ -1,2 +1,4 @@
+pub mod Columns
 pub mod Following
+pub mod Refusals
 pub mod Walks

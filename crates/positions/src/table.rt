@@ -1,14 +1,21 @@
 // The follow table, held for reading, and the engine that reads it.
 
+mod contents;
 mod filling;
+mod forms;
 mod positions;
+mod refusal;
+mod sorting;
 
 ghost use Rattle.std.specs.Prelude.{ℕ, ◌-◌, ◌*◌, ◌<◌, ◌≤◌, length};
 ghost use Rattle.positions.specs.Following.{Blank, Followed, Placed, Spare};
 
+pub use contents::ContentTable;
 use engine::Alphabet;
 pub use filling::{BlankTable, TooFewPlaces};
+pub use forms::FormTable;
 use models::{Model, Node};
+pub use sorting::BlankColumns;
 
 // The follow sets and the atoms of every number with a model, 64 places to a number.
 #[derive(Drop)]

@@ -32,7 +32,7 @@ impl<L: Alphabet> BlankTable<'_, '_, L> {
     }
 
     // Leaves every place zero.
-    fn clear(&mut self)
+    pub(crate) fn clear(&mut self)
         ensures rows { self.new.rows.now ≡ replicate (length self.old.rows.now) 0 }
         ensures atoms { self.new.atoms.now ≡ replicate (length self.old.atoms.now) Unused }
     {
@@ -75,6 +75,7 @@ impl<'n, 'm, 'r, 'a, L: Alphabet> FollowTable<'n, 'm, 'r, 'a, L> {
         blank: &mut BlankTable<'r, 'a, L>,
     ) -> Result<(), TooFewPlaces>
         ensures answer { elim result [ Ok v ↦ HasRoom (length models.now) blank.old.rows.now blank.old.atoms.now | Err v ↦ (HasRoom (length models.now) blank.old.rows.now blank.old.atoms.now → ⊥) ] }
+        ensures tables { elim result [ Ok v ↦ (self.new.nodes.now ≡ nodes.now) × (self.new.models.now ≡ models.now) | Err v ↦ Unit {0} ] }
         ensures made { elim result [ Ok v ↦ FollowRows L.Alphabet.stands nodes.now models.now self.new.rows.now × (length self.new.rows.now ≡ length blank.old.rows.now) × Atoms nodes.now models.now self.new.atoms.now × (length self.new.atoms.now ≡ length blank.old.atoms.now) | Err v ↦ self.new ≡ self.old ] }
         ensures left { elim result [ Ok v ↦ (blank.new.rows.now ≡ []) × (blank.new.atoms.now ≡ []) | Err v ↦ (blank.new.rows.now ≡ replicate (length blank.old.rows.now) 0) × (blank.new.atoms.now ≡ replicate (length blank.old.atoms.now) Unused) ] }
         ensures languages { elim result [ Ok v ↦ Speaks L.Alphabet.stands nodes.now models.now (⟦<FollowTable<'n, 'm, 'r, 'a, L> as Engine>⟧.language self.new) | Err v ↦ Unit {0} ] }

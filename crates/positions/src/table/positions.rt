@@ -13,7 +13,7 @@ use models::Model;
 pub const BEGINNING: u64 = 1;
 
 // Where a number's places begin, if it has a record.
-fn base_of(models: &[Model], number: u8) -> Option<usize>
+pub(crate) fn base_of(models: &[Model], number: u8) -> Option<usize>
     ensures { Based models.now number result }
 {
     let number = number as usize;

@@ -1,4 +1,4 @@
-use Rattle.std.proofs.Common.{◌≡◌, ◌*◌, ◌≤◌, length, sym, ap, ◌∙◌, subst, arith}
+use Rattle.std.proofs.Common.{◌≡◌, ◌*◌, ◌≤◌, length, refl, sym, ap, ◌∙◌, subst, arith}
 use Rattle.positions.specs.Following.{Rows, Atoms}
 use Rattle.derivative.proofs.Stepping.{speaks}
 use Rattle.positions.proofs.Entries.{rows_followed, rows_blank, atoms_placed, atoms_spare}
@@ -47,6 +47,7 @@ returns g c =
         ap length is_atoms ∙ c.write.ensures.room.1,
       );
       left = (ap (λ r. r.now) c.replace-rows.ensures.after, ap (λ r. r.now) c.replace-atoms.ensures.after);
+      tables = (refl, refl);
       languages = speaks g.L.Alphabet.stands nodes models;
       states = λ number state w. (λ h. h, λ h. h);
     }
