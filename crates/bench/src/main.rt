@@ -9,7 +9,7 @@ mod speed;
 use derivative::Derivatives;
 use engine::{ContentAtom, Engine, Letter, match_word};
 use models::{Model, Node};
-use positions::{BlankColumns, BlankTable, ContentTable, ContentTableEngine, FollowTable};
+use positions::{BlankColumns, BlankTable, ContentTable, FollowTable};
 use samples::{LETTERS, LONGEST, Sample, WEEK_MODELS, WEEK_NODES, write_sequence, write_star};
 use speed::{speed, steps_made};
 use std::{env, io};

@@ -7,7 +7,7 @@ ghost use Rattle.engine.specs.Atoms.{StandsFor};
 ghost use Rattle.models.specs.Tables.{ModelWords, ModelRest};
 
 use engine::{Content, Engine, Letter};
-use positions::{ContentTable, ContentTableEngine};
+use positions::ContentTable;
 use sealed::Sealed;
 
 // Sealed tables, and the follow table of the same nodes and records with its columns.

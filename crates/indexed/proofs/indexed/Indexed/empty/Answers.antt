@@ -5,4 +5,4 @@ pub invariant_of-result : goal.invariant_of-result
 invariant_of-result c =
     let sealed = c.empty-sealed.ensures.tables in
     let table = c.empty-table.ensures.tables in
-    (∣ table.0 ∙ sym sealed.0 ∣₁, (∣ table.1 ∙ sym sealed.1 ∣₁, tt))
+    record { nodes = ∣ table.0 ∙ sym sealed.0 ∣₁; models = ∣ table.1 ∙ sym sealed.1 ∣₁ }

@@ -4,4 +4,4 @@ use Rattle.indexed.proofs.indexed.Indexed.fill.Goals as goal
 pub invariant_of-self : goal.invariant_of-self
 invariant_of-self c =
     let held = c.in_ok-fill.ensures.tables in
-    (∣ held.0 ∙ c.nodes.ensures ∣₁, (∣ held.1 ∙ c.models.ensures ∣₁, tt))
+    record { nodes = ∣ held.0 ∙ c.nodes.ensures ∣₁; models = ∣ held.1 ∙ c.models.ensures ∣₁ }
