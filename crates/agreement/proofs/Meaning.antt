@@ -1,18 +1,16 @@
 -- What the tables of a draft say is what its text says.
-use Rattle.std.proofs.Common.{◌≡◌, ℕ, suc, ◌+◌, ◌<◌, ◌≤◌, true, ◌⊎◌, List, [], ◌∷◌, ◌++◌, length, Some, None, Option, sym, refl, ap, ◌∙◌, subst, inl, inr, arith, leb-true}
+use Rattle.std.proofs.Common.{◌≡◌, ℕ, suc, ◌+◌, ◌<◌, ◌≤◌, List, [], ◌∷◌, ◌++◌, length, Some, None, Option, sym, refl, ap, ◌∙◌, subst, inl, inr, arith, leb-true}
 use Rattle.engine.specs.Atoms.{StandsFor}
-use Rattle.engine.specs.Languages.{Language, Same, Empty, Each}
-use Rattle.engine.specs.Trees.{Forest, Valid, no_values}
+use Rattle.engine.specs.Languages.{Language, Each}
 use Rattle.engine.specs.declared.alphabet.ContentAtom.{ContentAtom}
 use Rattle.engine.specs.declared.alphabet.Letter.{Letter}
-use Rattle.models.specs.Expressions.{Exp, atoms, Words}
+use Rattle.models.specs.Expressions.{Exp, atoms}
 use Rattle.models.specs.Folds.{code, depth}
 use Rattle.models.specs.Readers.{Numbered, atoms_of}
 use Rattle.models.specs.Tables.{Coded, ModelWords, Speaks}
-use Rattle.models.specs.declared.node.Model.{Model}
 use Rattle.models.specs.declared.node.Node.{Node}
 use Rattle.models.proofs.ModelTables.{coded_one}
-use Rattle.models.proofs.Numbering.{numbered_in, numbered_some, numbered_one, coded_leaves, leaves}
+use Rattle.models.proofs.Numbering.{numbered_some, coded_leaves, leaves}
 use Rattle.scan.specs.Names.{Name}
 use Rattle.declarations.specs.Contents.{Placed}
 use Rattle.declarations.specs.Grammar.{ContentSpec}

@@ -1,9 +1,9 @@
 -- The models of declarations whose names are all declared name elements that have a record.
-use Rattle.std.proofs.Common.{◌≡◌, ℕ, suc, ◌+◌, ◌<◌, ◌≤◌, Bool, true, false, not, ◌&&◌, eqb, List, [], ◌∷◌, ◌++◌, length, sym, refl, ap, ◌∙◌, subst, arith, eqb-true}
+use Rattle.std.proofs.Common.{◌≡◌, ℕ, suc, ◌+◌, ◌≤◌, Bool, true, false, ◌&&◌, eqb, List, [], ◌∷◌, ◌++◌, length, refl, arith}
 use borrow.Author.Tests.{eqb-false, not-true}
 use Rattle.engine.specs.Languages.{Each}
 use Rattle.engine.specs.declared.alphabet.ContentAtom.{ContentAtom}
-use Rattle.engine.specs.declared.alphabet.ContentAtom.TheVariants.{Text, Element, All}
+use Rattle.engine.specs.declared.alphabet.ContentAtom.TheVariants.{Text, Element}
 use Rattle.models.specs.Expressions.{Exp, empty, atom, seq, alt, star, plus, option}
 use Rattle.models.proofs.Numbering.{leaves}
 use Rattle.scan.specs.Lists.{same, number_of, listed, all_listed}

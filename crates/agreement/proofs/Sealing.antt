@@ -1,5 +1,5 @@
 -- Sealing the tables of a draft answers what its text says.
-use Rattle.std.proofs.Common.{◌≡◌, ℕ, suc, ◌+◌, ◌-◌, ◌<◌, ◌≤◌, ◌⊎◌, List, [], ◌∷◌, ◌++◌, length, get_or, Some, None, Ok, Err, Option, sym, refl, ap, ◌∙◌, subst, inl, inr, arith}
+use Rattle.std.proofs.Common.{◌≡◌, ℕ, suc, ◌+◌, ◌-◌, ◌≤◌, List, [], ◌∷◌, ◌++◌, length, get_or, Some, None, Ok, Err, Option, sym, refl, ap, ◌∙◌, subst, inl, inr, arith}
 use Rattle.engine.specs.declared.alphabet.ContentAtom.{ContentAtom}
 use Rattle.models.specs.Readers.{Numbered}
 use Rattle.models.specs.declared.node.Node.{Node}
@@ -9,7 +9,6 @@ use Rattle.scan.specs.Readings.{Repeats, none, more}
 use Rattle.scan.specs.declared.entry.Entry.{Entry}
 use Rattle.declarations.specs.Contents.{Placed}
 use Rattle.declarations.specs.Grammar.{Item, State, ContentSpec, beginning}
-use Rattle.declarations.specs.Readers.{read_items}
 use Rattle.declarations.proofs.Grammars.{grammar_is_read}
 use Rattle.drafts.specs.Drafted.{declarations, text_models, most}
 use Rattle.drafts.specs.Layouts.{all_code, runs_from}

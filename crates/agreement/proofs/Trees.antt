@@ -1,6 +1,6 @@
 -- Validity depends on the words of the languages only.
 use Rattle.std.proofs.Common.{ℕ, List}
-use Rattle.engine.specs.Languages.{Language, Inhabited}
+use Rattle.engine.specs.Languages.{Language}
 use Rattle.engine.specs.Trees.{Forest, none, piece, child, letters, Fits, AllValid, Valid, no_values}
 use Rattle.engine.specs.declared.alphabet.Letter.{Letter}
 

@@ -1,5 +1,5 @@
 -- What a text of declarations means: the language of each element, and whether the text may be sealed.
-use Rattle.std.specs.Prelude.{◌≡◌, ℕ, ◌≤◌, ◌⊎◌, List, [], ◌∷◌, length, Some, None, Ok, Err, Result}
+use Rattle.std.specs.Prelude.{◌≡◌, ℕ, ◌⊎◌, List, length, Some, None, Ok, Err, Result}
 use Rattle.engine.specs.Atoms.{StandsFor}
 use Rattle.engine.specs.Languages.{Language, Same, Empty}
 use Rattle.engine.specs.Trees.{Forest, Valid, no_values}

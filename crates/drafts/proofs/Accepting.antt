@@ -1,5 +1,5 @@
 -- What it means that every question about a text gets a yes.
-use Rattle.std.proofs.Common.{◌≡◌, ℕ, suc, ◌+◌, ◌<◌, ◌≤◌, min, Bool, true, false, ltb, leb, ◌⊎◌, List, [], ◌∷◌, ◌++◌, length, Some, None, Option, sym, refl, ap, ◌∙◌, subst, inl, inr, append_assoc, arith, length-append, ltb-true, lt-ltb, le-leb, leb-true}
+use Rattle.std.proofs.Common.{◌≡◌, ℕ, ◌+◌, ◌≤◌, min, Bool, true, false, leb, List, [], ◌∷◌, ◌++◌, length, Some, None, Option, sym, refl, ap, ◌∙◌, subst, inl, inr, arith, length-append, ltb-true, lt-ltb, le-leb, leb-true}
 use Rattle.models.specs.Folds.{code}
 use Rattle.models.specs.Readers.{Numbered}
 use Rattle.scan.specs.Names.{Name}
@@ -8,7 +8,7 @@ use Rattle.declarations.specs.Contents.{Placed}
 use Rattle.declarations.specs.Grammar.{State}
 use Rattle.declarations.specs.Readers.{read_items}
 use Rattle.drafts.specs.Drafted.{found_in, declarations, most, is_accepted, all_yes}
-use Rattle.drafts.specs.Questions.{Room, Asked, Verdict, refused, accepted, questions, first_no, or_ask, ask_all, judge_items, judge, declared_names, model_of, nodes_of, has_record, few_atoms, new_name, names_declared, names_once, nodes_fit}
+use Rattle.drafts.specs.Questions.{Room, Asked, refused, questions, first_no, or_ask, ask_all, judge_items, judge, declared_names, model_of, nodes_of, has_record, nodes_fit}
 use Rattle.drafts.proofs.Asking.{first_no_more, first_no_at, none_some}
 
 false_true : false ≡ true → ⊥

@@ -1,10 +1,10 @@
 -- Expressions that stand one after the other in a node table are coded at their records.
-use Rattle.std.proofs.Common.{◌≡◌, ℕ, suc, ◌+◌, ◌-◌, ◌<◌, ◌≤◌, ◌⊎◌, List, [], ◌∷◌, ◌++◌, length, get_or, take, drop, sym, refl, ap, ◌∙◌, subst, inl, inr, append_assoc, arith, length-append}
+use Rattle.std.proofs.Common.{◌≡◌, ℕ, suc, ◌+◌, ◌-◌, ◌≤◌, List, [], ◌∷◌, ◌++◌, length, get_or, take, drop, sym, refl, ap, ◌∙◌, subst, inl, inr, append_assoc, arith, length-append}
 use lib.Seq.{take-append_seam, drop-append_seam}
 use Rattle.models.specs.Expressions.{Exp, atoms}
-use Rattle.models.specs.Folds.{Codes, code, depth}
+use Rattle.models.specs.Folds.{code, depth}
 use Rattle.models.specs.Readers.{Numbered}
-use Rattle.models.specs.Tables.{Coded, model_at, part}
+use Rattle.models.specs.Tables.{Coded, part}
 use Rattle.models.specs.declared.node.Model.{Model}
 use Rattle.models.specs.declared.node.Node.{Node}
 use Rattle.models.proofs.Numbering.{numbered_in}

@@ -1,5 +1,5 @@
 -- There are as many models and entries as declarations.
-use Rattle.std.proofs.Common.{◌≡◌, ℕ, suc, List, [], ◌∷◌, length, refl, ap, ◌∙◌}
+use Rattle.std.proofs.Common.{◌≡◌, ℕ, suc, List, [], ◌∷◌, length, refl, ap}
 use Rattle.scan.specs.Names.{Name}
 use Rattle.declarations.specs.Contents.{Placed}
 use Rattle.drafts.specs.Tables.{entries_of, models_in}

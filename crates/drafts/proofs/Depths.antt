@@ -1,5 +1,5 @@
 -- The models of declarations fit the working values of a fold: the empty word is in none of them but alone.
-use Rattle.std.proofs.Common.{◌≡◌, ℕ, zero, suc, ◌+◌, ◌≤◌, ◌⊎◌, List, [], ◌∷◌, ◌++◌, sym, refl, ap, ◌∙◌, subst, inl, inr, arith}
+use Rattle.std.proofs.Common.{◌≡◌, ℕ, zero, suc, ◌≤◌, List, [], ◌∷◌, sym, refl, ap, ◌∙◌, inl, inr, arith}
 use Rattle.engine.specs.declared.alphabet.ContentAtom.{ContentAtom}
 use Rattle.engine.specs.declared.alphabet.ContentAtom.TheVariants.{Text, Element}
 use Rattle.models.specs.Expressions.{Exp, empty, atom, seq, alt, star, plus, option, atoms}
@@ -9,7 +9,7 @@ use Rattle.scan.specs.Lists.{number_of}
 use Rattle.scan.specs.Names.{Name}
 use Rattle.scan.specs.Readings.{Repeats, none, more}
 use Rattle.declarations.specs.Contents.{Content, nothing, anything, mixed, children}
-use Rattle.declarations.specs.Grammar.{Joint, by_comma, by_bar, join, Mark, UnitOf, Cp, Member, Choice, Seq, Group, Children, ContentSpec, deepest}
+use Rattle.declarations.specs.Grammar.{Joint, by_comma, by_bar, join, Mark, UnitOf, Cp, Member, Choice, Seq, Group, ContentSpec, deepest}
 use Rattle.declarations.specs.Models.{numbered, or_names, model}
 
 -- No empty word is in it.

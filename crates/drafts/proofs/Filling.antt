@@ -1,6 +1,6 @@
 -- Lists written over a table.
-use Rattle.std.proofs.Common.{◌≡◌, ℕ, zero, suc, ◌+◌, ◌-◌, ◌<◌, ◌≤◌, List, [], ◌∷◌, ◌++◌, length, take, drop, set, replicate, sym, refl, ap, ◌∙◌, subst, append_assoc, add-zero, add_assoc, add_comm, arith, length-append, length-set}
-use lib.Seq.{take-append_seam, drop-append_seam}
+use Rattle.std.proofs.Common.{◌≡◌, ℕ, zero, suc, ◌+◌, ◌-◌, ◌≤◌, List, [], ◌∷◌, ◌++◌, length, take, drop, set, replicate, sym, refl, ap, ◌∙◌, append_assoc, add-zero, arith, length-append, length-set}
+use lib.Seq.{take-append_seam}
 use Rattle.scan.specs.Lists.{puts}
 use Rattle.drafts.specs.Tables.{filled}
 

@@ -1,16 +1,15 @@
 -- The verdict on a text, from what the passes over it found.
-use Rattle.std.proofs.Common.{◌≡◌, ℕ, ◌+◌, ◌-◌, ◌<◌, ◌≤◌, min, Bool, true, false, leb, List, [], ◌∷◌, ◌++◌, length, take, Some, None, Ok, Err, Option, Result, sym, refl, ap, ◌∙◌, subst, arith, le-leb}
+use Rattle.std.proofs.Common.{◌≡◌, ℕ, ◌-◌, ◌≤◌, min, true, false, List, [], ◌∷◌, length, take, Some, None, Ok, Err, Option, sym, refl, ap, ◌∙◌, subst, arith, le-leb}
 use Rattle.scan.specs.Lists.{puts}
-use Rattle.scan.specs.Names.{Name}
-use Rattle.scan.specs.Readings.{Run, finished, stopped}
+use Rattle.scan.specs.Readings.{finished, stopped}
 use Rattle.scan.specs.declared.entry.Entry.{Entry}
 use Rattle.declarations.specs.Contents.{Placed}
 use Rattle.declarations.specs.Grammar.{State}
 use Rattle.declarations.specs.Readers.{read_items}
 use Rattle.drafts.specs.Asks.{Listed}
 use Rattle.drafts.specs.Drafted.{found_in, declarations}
-use Rattle.drafts.specs.Noted.{AllRead, Noting, within}
-use Rattle.drafts.specs.Questions.{Room, Asked, Verdict, refused, accepted, first_no, or_ask, ask_all, judge_items, judge, questions, declared_names}
+use Rattle.drafts.specs.Noted.{Noting, within}
+use Rattle.drafts.specs.Questions.{Room, Asked, Verdict, refused, accepted, first_no, or_ask, ask_all, judge_items, judge, declared_names}
 use Rattle.drafts.specs.Reading.{Tells, AskedText, later_questions}
 use Rattle.drafts.specs.Refusals.{number}
 use Rattle.drafts.specs.Tables.{entries_of}

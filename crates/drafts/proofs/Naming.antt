@@ -1,5 +1,5 @@
 -- The entries of declarations hold their names.
-use Rattle.std.proofs.Common.{◌≡◌, ℕ, ◌+◌, ◌-◌, List, [], ◌∷◌, ◌++◌, length, take, drop, sym, refl, ap, ◌∙◌, subst, arith, drop-drop}
+use Rattle.std.proofs.Common.{◌≡◌, ℕ, ◌+◌, ◌-◌, List, [], ◌∷◌, ◌++◌, length, take, drop, sym, refl, ap, ◌∙◌, arith, drop-drop}
 use lib.Seq.{take-append_seam}
 use Rattle.scan.proofs.Skipping.{skip_leading}
 use Rattle.scan.specs.Bytes.{is_blank, skip}
@@ -7,7 +7,6 @@ use Rattle.scan.specs.Lists.{name_at, names_at}
 use Rattle.scan.specs.Readings.{got}
 use Rattle.std.specs.List.{prefix_len}
 use Rattle.declarations.specs.Contents.{Declaration, Placed}
-use Rattle.declarations.specs.Grammar.{ElementDecl}
 use Rattle.declarations.specs.Readers.{read_declaration}
 use Rattle.declarations.proofs.DeclarationGrammar.{declaration_agrees}
 use Rattle.drafts.specs.Noted.{AllRead}

@@ -1,22 +1,22 @@
 -- One declaration more is noted.
-use Rattle.std.proofs.Common.{◌≡◌, ℕ, suc, ◌+◌, ◌-◌, ◌<◌, ◌≤◌, Bool, true, false, eqb, ltb, ◌⊎◌, List, [], ◌∷◌, ◌++◌, length, take, drop, set, Some, None, Ok, Err, sym, refl, ap, ◌∙◌, subst, inl, inr, add-zero, zero-add, arith, length-append, length-drop, length-take, le-ltb, lt-ltb, eqb-true}
+use Rattle.std.proofs.Common.{◌≡◌, ℕ, ◌+◌, ◌-◌, ◌<◌, ◌≤◌, Bool, true, false, eqb, ◌⊎◌, List, [], ◌∷◌, ◌++◌, length, drop, set, Some, None, Ok, Err, sym, refl, ap, ◌∙◌, inl, inr, zero-add, arith, length-append, length-drop, length-take, le-ltb, lt-ltb, eqb-true}
 use borrow.Author.Tests.{eqb-false}
 use Rattle.scan.specs.Lists.{puts}
 use Rattle.scan.proofs.Runs.{run_next, run_over, run_stuck}
 use Rattle.scan.specs.Names.{Name}
-use Rattle.scan.specs.Readings.{Stands, got, next, over, stuck, run, finished, stopped}
+use Rattle.scan.specs.Readings.{Stands, got, next, over, stuck, run}
 use Rattle.scan.specs.declared.entry.Entry.{Entry}
 use Rattle.declarations.proofs.ItemGrammar.{item_steps}
 use Rattle.declarations.specs.Answers.{DeclaredIs, Passed}
 use Rattle.declarations.specs.Contents.{Declaration, Placed}
 use Rattle.declarations.specs.declared.declared.Declared.{Declared}
 use Rattle.declarations.specs.Grammar.{State, moved}
-use Rattle.declarations.specs.Readers.{item, read_declaration, read_items}
+use Rattle.declarations.specs.Readers.{item, read_declaration}
 use Rattle.drafts.specs.Noted.{AllRead, Noting, NotedAt, Notes, within}
 use Rattle.drafts.specs.Questions.{first_no}
 use Rattle.drafts.specs.Tables.{entry_of, entries_of}
 use Rattle.drafts.specs.declared.noted.Noted.{Noted}
-use Rattle.drafts.proofs.Asking.{first_no_push, first_no_stays, first_no_more, first_no_at, none_some}
+use Rattle.drafts.proofs.Asking.{first_no_push, first_no_stays, first_no_more, first_no_at}
 use Rattle.drafts.proofs.Counting.{length_entries}
 use Rattle.drafts.proofs.Filling.{puts_append}
 

@@ -1,5 +1,5 @@
 -- What is in the tables after every question about a text got a yes.
-use Rattle.std.proofs.Common.{◌≡◌, ℕ, ◌+◌, ◌-◌, ◌≤◌, min, true, List, [], ◌∷◌, ◌++◌, length, take, replicate, Ok, Err, sym, refl, ap, ◌∙◌, subst, arith, length-append, leb-true}
+use Rattle.std.proofs.Common.{◌≡◌, ℕ, ◌+◌, ◌-◌, ◌≤◌, min, true, List, [], ◌∷◌, ◌++◌, length, take, replicate, Ok, Err, sym, refl, ap, ◌∙◌, subst, arith, leb-true}
 use lib.ListN.{length-replicate}
 use Rattle.engine.specs.declared.alphabet.ContentAtom.{ContentAtom}
 use Rattle.models.specs.Folds.{code}
@@ -14,10 +14,10 @@ use Rattle.drafts.specs.Asks.{Listed, fit_in}
 use Rattle.drafts.specs.Drafted.{declarations, text_models, is_accepted}
 use Rattle.drafts.specs.Layouts.{all_code, runs_from}
 use Rattle.drafts.specs.Questions.{Room, refused, accepted, judge, declared_names, model_of, nodes_of, nodes_fit}
-use Rattle.drafts.specs.Reading.{AllFilled, AskedText, ReadInto, Tells, room_of}
+use Rattle.drafts.specs.Reading.{AskedText, ReadInto, Tells, room_of}
 use Rattle.drafts.specs.Refusals.{number}
 use Rattle.drafts.specs.declared.refusal.Refusal.{Refusal}
-use Rattle.drafts.specs.Tables.{entries_of, filled, models_in, zero_model}
+use Rattle.drafts.specs.Tables.{entries_of, filled, zero_model}
 use Rattle.drafts.specs.Writes.{WritesModels}
 use Rattle.drafts.proofs.Accepting.{Accepted, YesFrom, accepted_yes, none_yes, few_records}
 use Rattle.drafts.proofs.Coding.{length_runs}

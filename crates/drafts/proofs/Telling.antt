@@ -2,7 +2,7 @@
 use Rattle.std.proofs.Common.{◌≡◌, ℕ, min, List, [], ◌∷◌, Some, None, Ok, Err, Option, Result, sym, refl, ap, ◌∙◌, subst, arith}
 use Rattle.declarations.specs.Contents.{Placed}
 use Rattle.drafts.specs.Asks.{fit_in}
-use Rattle.drafts.specs.Questions.{Room, Asked, Verdict, refused, accepted, first_no, or_ask, ask_all, declared_names, nodes_fit}
+use Rattle.drafts.specs.Questions.{Room, Asked, accepted, first_no, or_ask, ask_all, declared_names, nodes_fit}
 use Rattle.drafts.specs.Reading.{Tells, refuse_at}
 use Rattle.drafts.specs.Refusals.{number}
 use Rattle.drafts.specs.declared.refusal.Question.{Question}

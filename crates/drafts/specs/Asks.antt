@@ -1,5 +1,5 @@
 -- Questions as they are asked of the declarations one after the other, by what is told of each.
-use Rattle.std.specs.Prelude.{◌≡◌, ℕ, ◌+◌, ◌≤◌, Bool, true, List, [], length, Some, None, Option, ◌==◌, nat_le}
+use Rattle.std.specs.Prelude.{◌≡◌, ℕ, ◌+◌, ◌≤◌, Bool, List, [], length, None, Option, ◌==◌, nat_le}
 use Rattle.models.specs.Folds.{code}
 use Rattle.scan.specs.Names.{Name}
 use Rattle.scan.specs.declared.entry.Entry.{Entry}

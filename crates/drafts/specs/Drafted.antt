@@ -1,8 +1,7 @@
 -- What a draft holds: the tables of the declarations that its text reads as.
-use Rattle.std.specs.Prelude.{◌≡◌, ℕ, Bool, true, false, List, [], ◌∷◌}
+use Rattle.std.specs.Prelude.{ℕ, Bool, true, false, List, []}
 use Rattle.engine.specs.declared.alphabet.ContentAtom.{ContentAtom}
 use Rattle.models.specs.Expressions.{Exp}
-use Rattle.scan.specs.Names.{Name}
 use Rattle.scan.specs.Readings.{Run, finished, stopped}
 use Rattle.declarations.specs.Contents.{Placed}
 use Rattle.declarations.specs.Grammar.{State}

@@ -1,9 +1,8 @@
 -- What the engines answer about one open element, in terms of the rests of its two states.
-use Rattle.std.specs.Prelude.{◌≡◌, ℕ, ◌⊎◌, List, [], ◌∷◌, ◌++◌, Some, None, Option}
-use Rattle.std.proofs.Common.{inl, inr}
-use Rattle.engine.specs.Languages.{Language, Empty, Inhabited, Same, residue, Answers, Advanced}
+use Rattle.std.specs.Prelude.{◌≡◌, ℕ, ◌⊎◌, List, [], ◌∷◌, Some, None, Option}
+use Rattle.engine.specs.Languages.{Language, Empty, residue, Answers, Advanced}
 use Rattle.engine.specs.declared.alphabet.Letter.{Letter}
-use Rattle.engine.specs.declared.alphabet.Letter.TheVariants.{Text, Element}
+use Rattle.engine.specs.declared.alphabet.Letter.TheVariants.{Text}
 use Rattle.frames.specs.declared.frame.Frame.{Frame}
 
 -- The frame of an element that has just started: its states are those of its two languages; there is

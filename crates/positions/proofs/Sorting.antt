@@ -11,7 +11,7 @@ use Rattle.models.specs.declared.node.Node.TheVariants as node
 use Rattle.models.proofs.Bits.{has_or, has_or_l, has_or_r, has_and, and_has, has_guarded, guarded_has, has_single, single_has, has_small, has_none}
 use Rattle.derivative.proofs.Stepping.{speaks}
 use Rattle.positions.specs.Columns.{Sorts, Sorted, Columns, Complete}
-use Rattle.positions.specs.Walks.{Reads, Kept}
+use Rattle.positions.specs.Walks.{Kept}
 
 decided : {P : Type 0} (t : Bool) → Decides t P → t ≡ true → P
 decided true d e = d

@@ -1,4 +1,4 @@
-use Rattle.std.proofs.Common.{◌≡◌, ◌-◌, ◌≤◌, length, get_or, sym, ap, arith}
+use Rattle.std.proofs.Common.{◌-◌, ◌≤◌, length, sym, ap, arith}
 use Rattle.std.proofs.lemmas.List.{get_or_past}
 use Rattle.scan.specs.Lists.{zero_entry}
 use Rattle.scan.specs.declared.entry.Entry.{Entry}

@@ -1,4 +1,4 @@
-use Rattle.std.proofs.Common.{◌≡◌, ◌+◌, ◌-◌, ◌^◌, ◌<◌, ◌≤◌, [], length, sym, refl, ap, ◌∙◌, subst, arith}
+use Rattle.std.proofs.Common.{[], sym, refl, ap, ◌∙◌, subst, arith}
 use Rattle.scan.specs.declared.entry.Entry.{Entry}
 use Rattle.drafts.specs.Noted.{NotedAt}
 use Rattle.drafts.proofs.Noting.{noting_none, noted_passed, noted_declared, notes_end, notes_unread}

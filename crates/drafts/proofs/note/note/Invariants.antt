@@ -1,4 +1,4 @@
-use Rattle.std.proofs.Common.{◌-◌, ◌≤◌, List, length}
+use Rattle.std.proofs.Common.{◌-◌, length}
 use Rattle.drafts.specs.Noted.{NotedAt}
 use Rattle.drafts.proofs.note.note.Given as goal
 

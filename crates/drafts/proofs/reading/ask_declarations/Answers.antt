@@ -1,8 +1,7 @@
-use Rattle.std.proofs.Common.{◌≡◌, ℕ, min, List, [], ◌∷◌, Ok, Err, sym, ap, ◌∙◌, subst, arith}
+use Rattle.std.proofs.Common.{ℕ, List, [], ◌∷◌, Err, sym, ap, ◌∙◌, subst, arith}
 use Rattle.std.proofs.lemmas.Result.{err_from_is_err_and}
 use Rattle.declarations.specs.Contents.{Placed}
-use Rattle.drafts.specs.Asks.{fit_in}
-use Rattle.drafts.specs.Questions.{Room, Asked, ask_all, declared_names, first_no, few_atoms, new_name, names_declared, names_once, nodes_fit}
+use Rattle.drafts.specs.Questions.{Room, Asked, ask_all, declared_names, few_atoms, new_name, names_declared, names_once, nodes_fit}
 use Rattle.drafts.specs.Reading.{Tells, later_questions}
 use Rattle.drafts.specs.declared.refusal.Question.TheVariants as question
 use Rattle.drafts.proofs.Telling.{last_told, told_no, told_yes, yes_none}

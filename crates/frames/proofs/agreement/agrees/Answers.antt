@@ -1,4 +1,4 @@
-use Rattle.std.proofs.Common.{ℕ, ◌<◌, ◌≤◌, true, arith, below_more}
+use Rattle.std.proofs.Common.{◌≤◌, true, arith, below_more}
 use Rattle.frames.specs.Agreements.{AgreesAt}
 use Rattle.frames.proofs.Agreeing.{agreed_all}
 use Rattle.frames.proofs.agreement.agrees.Goals as goal

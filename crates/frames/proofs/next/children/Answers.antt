@@ -1,4 +1,4 @@
-use Rattle.std.proofs.Common.{◌≡◌, ℕ, ◌<◌, ◌≤◌, sym, ◌∙◌, subst, arith, below_more}
+use Rattle.std.proofs.Common.{ℕ, ◌≤◌, sym, ◌∙◌, subst, arith, below_more}
 use Rattle.bits.specs.Sets.{has}
 use Rattle.engine.specs.Languages.{Decides}
 use Rattle.frames.specs.Next.{ChildGoesOn}

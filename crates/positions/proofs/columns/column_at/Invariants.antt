@@ -1,4 +1,3 @@
-use Rattle.std.proofs.Common.{◌*◌, ◌/◌, ◌%◌}
 use Rattle.positions.specs.Columns.{Sorted}
 use Rattle.positions.proofs.columns.column_at.Given as goal
 

@@ -1,4 +1,4 @@
-use Rattle.std.proofs.Common.{◌*◌, ◌/◌, ◌%◌, ◌<◌, ◌≢◌, length, get_or, sym, subst, arith, get_or-set_other, get_or-set_same, below_more}
+use Rattle.std.proofs.Common.{◌*◌, ◌/◌, ◌%◌, ◌<◌, ◌≢◌, length, sym, subst, arith, get_or-set_other, get_or-set_same, below_more}
 use Rattle.positions.specs.Columns.{Sorted}
 use Rattle.positions.proofs.columns.write_columns.Goals as goal
 

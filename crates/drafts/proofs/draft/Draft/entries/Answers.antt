@@ -1,4 +1,4 @@
-use Rattle.std.proofs.Common.{◌≡◌, length, sym, ◌∙◌}
+use Rattle.std.proofs.Common.{length, sym, ◌∙◌}
 use Rattle.scan.specs.Lists.{zero_entry}
 use Rattle.drafts.specs.Drafted.{declarations}
 use Rattle.drafts.specs.Tables.{entries_of}

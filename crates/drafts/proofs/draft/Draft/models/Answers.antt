@@ -1,4 +1,4 @@
-use Rattle.std.proofs.Common.{◌≡◌, length, sym, ◌∙◌}
+use Rattle.std.proofs.Common.{length, sym, ◌∙◌}
 use Rattle.drafts.specs.Drafted.{declarations, text_models}
 use Rattle.drafts.specs.Layouts.{runs_from}
 use Rattle.drafts.specs.Questions.{declared_names}

@@ -1,4 +1,4 @@
-use Rattle.std.proofs.Common.{◌≡◌, length, sym, ap, ◌∙◌, subst, arith}
+use Rattle.std.proofs.Common.{◌≡◌, length, sym, ap, ◌∙◌, subst}
 use Rattle.engine.specs.Atoms.{InRange}
 use Rattle.positions.specs.Columns.{SortedTable, byte_bucket}
 use Rattle.positions.proofs.Sorting.{speaks_held, rests_held}
