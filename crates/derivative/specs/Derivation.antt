@@ -1,5 +1,5 @@
 -- The algebra of a step: how what is known of an expression comes from what is known of its parts.
-use Rattle.std.specs.Prelude.{ℕ, ◌-◌, ◌/◌, ◌%◌, ◌^◌, Bool, true, false, ◌&&◌, ◌||◌, ◌==◌, bit_and, bit_or}
+use Rattle.std.specs.Prelude.{ℕ, ◌/◌, ◌%◌, ◌^◌, Bool, true, false, ◌&&◌, ◌||◌, ◌==◌, bit_and, bit_or}
 use Rattle.models.specs.Folds.{Operations}
 use Rattle.models.specs.Sets.{singleton, guarded}
 use Rattle.derivative.specs.declared.derive.Derived.{Derived}
@@ -7,10 +7,6 @@ use Rattle.derivative.specs.declared.derive.Derived.{Derived}
 -- Whether a number is in a set.
 abbrev pub member : ℕ → ℕ → Bool
 member set n = (set / 2 ^ n) % 2 == 1
-
--- Every number below 64: the readers where any letter will do.
-abbrev pub everything : ℕ
-everything = 2 ^ 64 - 1
 
 -- From the atoms that may have been read last and the atoms that read the letter.
 abbrev pub derivation : {Atom : Type 0} → ℕ → ℕ → Operations Atom Derived

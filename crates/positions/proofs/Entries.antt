@@ -4,7 +4,7 @@ use native.Mathlib.Decide.{dec_le}
 use lib.Bits.{bit_or}
 use lib.ListN.{get_or-eq_default}
 use Rattle.std.proofs.lemmas.List.{take_more, drop_more}
-use Rattle.derivative.specs.Derivation.{derivation, after_state, ends_in, everything}
+use Rattle.derivative.specs.Derivation.{derivation, after_state, ends_in}
 use Rattle.derivative.specs.declared.derive.Derived.{Derived}
 use Rattle.models.specs.Expressions.{Exp}
 use Rattle.models.specs.Folds.{value}
@@ -15,7 +15,7 @@ use Rattle.models.specs.declared.node.Model.{Model}
 use Rattle.models.specs.declared.node.Node.{Node}
 use Rattle.models.specs.declared.node.Node.TheVariants as node
 use Rattle.models.proofs.Numbering.{atoms_of_append, numbered_append, numbered_in, numbered_one, no_atom}
-use Rattle.positions.specs.Following.{row, AtomAt, Rows, Atoms, Followed, Blank, Placed, Spare}
+use Rattle.positions.specs.Following.{everything, row, AtomAt, Rows, Atoms, Followed, Blank, Placed, Spare}
 
 -- A row from what was computed for it.
 pub row_made : {A : Type 0} (e : Exp A) (p from : ℕ) (d : Derived) (reached : ℕ) (t : Bool) (w : ℕ) → from ≡ singleton p → d ≡ value (derivation from everything) 0 e → reached ≡ after_state from d → t ≡ ends_in from d → w ≡ guarded t 1 → bit_or reached w ≡ row e p

@@ -9,11 +9,11 @@ use Rattle.models.proofs.Bits.{has_or, has_or_l, has_or_r, has_guarded, guarded_
 use Rattle.models.proofs.Derivation.{Iff}
 use Rattle.models.proofs.Numbering.{leaves, length_leaves, numbered_one, numbered_some}
 use Rattle.models.proofs.Rests.{rest_mono, rest_some, rest_live, word}
-use Rattle.derivative.specs.Derivation.{member, ends_in, everything}
+use Rattle.derivative.specs.Derivation.{member, ends_in}
 use Rattle.derivative.proofs.Knowing.{iff_member, iff_and, iff_or, nullable_computed, ends_computed}
 use Rattle.models.specs.declared.node.Model.{Model}
 use Rattle.models.specs.declared.node.Node.{Node}
-use Rattle.positions.specs.Following.{row, Followed, Blank, FollowRows}
+use Rattle.positions.specs.Following.{everything, row, Followed, Blank, FollowRows}
 use Rattle.positions.proofs.Reading.{after_in, row_next, next_row, row_end, row_is}
 use Rattle.positions.proofs.Splitting.{one, single_is, first_same, First, Next, Split, split}
 

@@ -15,10 +15,10 @@ use Rattle.models.proofs.Derivation.{Iff}
 use Rattle.models.proofs.ModelTables.{coded_or_not}
 use Rattle.models.proofs.Numbering.{leaves, length_leaves, numbered_in, numbered_one, numbered_some, coded_leaves}
 use Rattle.models.proofs.Rests.{rest_mono, rest_or, rest_some, rest_guard, rest_each, word}
-use Rattle.derivative.specs.Derivation.{member, after_state, ends_in, everything}
+use Rattle.derivative.specs.Derivation.{member, after_state, ends_in}
 use Rattle.derivative.proofs.Knowing.{iff_member, iff_and, iff_or, iff_then, nullable_computed, ends_computed}
 use Rattle.derivative.proofs.Stepping.{ends_decided, begin_some, step_none, step_some}
-use Rattle.positions.specs.Following.{row, Followed, Blank, Placed, Spare}
+use Rattle.positions.specs.Following.{everything, row, Followed, Blank, Placed, Spare}
 use Rattle.positions.specs.Walks.{Reads, Kept, Union}
 use Rattle.positions.proofs.Splitting.{one, single_is, first_same, Tells, First, Next, Split, split}
 

@@ -11,9 +11,10 @@ use Rattle.models.specs.Sets.{Has, singleton, guarded}
 use Rattle.models.proofs.Bits.{has_none, has_and, and_has, has_own, has_single, single_has}
 use Rattle.models.proofs.Derivation.{Iff, Derives, derives_by, derives_empty, derives_atom, derives_seq, derives_alt, derives_star, derives_plus, derives_option}
 use Rattle.models.proofs.Numbering.{leaves, length_leaves, numbered_append}
-use Rattle.derivative.specs.Derivation.{derivation, everything}
+use Rattle.derivative.specs.Derivation.{derivation}
 use Rattle.derivative.specs.declared.derive.Derived.{Derived}
 use Rattle.derivative.proofs.Knowing.{iff_member, iff_and, iff_or, iff_union, iff_guarded}
+use Rattle.positions.specs.Following.{everything}
 
 pub has_all : (n : ℕ) → n < 64 → Has everything n
 has_all n lt = (has_and (2 ^ n) everything n (subst (λ x. Has x n) (sym (and_mask (2 ^ n) 64 ∙ mod-eq_of_lt (pow_below n 64 lt))) (has_own n))).1

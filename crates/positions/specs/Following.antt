@@ -1,6 +1,6 @@
 -- Follow sets as rows of a table.
-use Rattle.std.specs.Prelude.{◌≡◌, ℕ, ◌+◌, ◌-◌, ◌*◌, ◌/◌, ◌%◌, ◌<◌, ◌≤◌, List, length, bit_or, slice_index, slice_index_or}
-use Rattle.derivative.specs.Derivation.{derivation, after_state, ends_in, everything}
+use Rattle.std.specs.Prelude.{◌≡◌, ℕ, ◌+◌, ◌-◌, ◌*◌, ◌/◌, ◌%◌, ◌^◌, ◌<◌, ◌≤◌, List, length, bit_or, slice_index, slice_index_or}
+use Rattle.derivative.specs.Derivation.{derivation, after_state, ends_in}
 use Rattle.models.specs.Expressions.{Exp}
 use Rattle.models.specs.Folds.{code, value}
 use Rattle.models.specs.Readers.{atoms_of, Numbered}
@@ -10,6 +10,10 @@ use Rattle.models.specs.Tables.{Coded}
 use Rattle.models.specs.declared.node.Model.{Model}
 use Rattle.models.specs.declared.node.Node.{Node}
 use Rattle.models.specs.declared.node.Node.TheVariants as node
+
+-- Every bit of a set.
+abbrev pub everything : ℕ
+everything = 2 ^ 64 - 1
 
 -- The row of atom p: what may be read after p, whatever the letter, with 0 among it where the word may stop there.
 abbrev pub row : {A : Type 0} → Exp A → ℕ → ℕ

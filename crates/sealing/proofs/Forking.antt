@@ -1,7 +1,6 @@
 -- What the code finds of forks and ambiguity is what the definitions say.
-use Rattle.std.proofs.Common.{◌≡◌, ℕ, ◌+◌, ◌^◌, ◌<◌, ◌≤◌, Bool, true, false, not, eqb, ◌⊎◌, List, [], ◌∷◌, ◌++◌, length, get_or, sym, refl, ap, ◌∙◌, subst, inl, inr, append-nil, arith, eqb-true}
+use Rattle.std.proofs.Common.{◌≡◌, ℕ, ◌+◌, ◌^◌, ◌<◌, ◌≤◌, Bool, true, false, not, eqb, ◌⊎◌, List, [], ◌∷◌, ◌++◌, sym, refl, ap, ◌∙◌, subst, inl, inr, append-nil, eqb-true}
 use borrow.Author.Tests.{both_ways, eqb-false}
-use lib.Bits.{bit_and, and_zero_l}
 use Rattle.std.proofs.lemmas.Bool.{cases_eq}
 use Rattle.bits.specs.Sets.{has}
 use Rattle.bits.proofs.Sets as sets
@@ -12,7 +11,7 @@ use Rattle.engine.specs.declared.alphabet.ContentAtom.TheVariants as content
 use Rattle.engine.specs.declared.alphabet.Letter.{Letter}
 use Rattle.engine.specs.declared.alphabet.Letter.TheVariants.{Text, Element}
 use Rattle.models.specs.Expressions.{Exp}
-use Rattle.models.specs.Folds.{Codes}
+use Rattle.models.specs.Folds.{Codes, value}
 use Rattle.models.specs.Marks.{Mark}
 use Rattle.models.specs.Readers.{Numbered, Readers, atom_of, atoms_of}
 use Rattle.models.specs.Sets.{Has, singleton}
@@ -22,11 +21,11 @@ use Rattle.models.specs.declared.node.Node.{Node}
 use Rattle.models.specs.declared.node.Node.TheVariants as node
 use Rattle.models.proofs.Folding.{codes_one}
 use Rattle.models.proofs.Numbering.{leaves, coded_leaves, atoms_of_append}
-use Rattle.models.proofs.Derivation.{Iff}
-use Rattle.derivative.proofs.Cutting.{reached_among}
-use Rattle.derivative.proofs.Knowing.{iff_member, iff_then, Agrees}
+use Rattle.derivative.specs.Derivation.{derivation, after_state}
+use Rattle.derivative.specs.declared.derive.Derived.{Derived}
+use Rattle.derivative.proofs.Knowing.{iff_member, Agrees}
 use Rattle.derivative.proofs.Stepping.{readers_agree}
-use Rattle.sealing.specs.Forks.{After, Forks, ForksIn, ForksBy, AmbiguousIn, Several, NextIn, FollowSets, next_atoms}
+use Rattle.sealing.specs.Forks.{After, Forks, ForksIn, ForksBy, AmbiguousIn, Several}
 use Rattle.sealing.specs.Questions.{IsAmbiguous, Unambiguous}
 use Rattle.sealing.proofs.Completing.{each_both}
 use Rattle.sealing.proofs.Marking.{reads_next, fork_ambiguous, ambiguous_fork}
@@ -76,47 +75,30 @@ several_none set rest p others none (i, j, ne, hi, hj) =
 pub several_empty : Several 0 → ⊥
 several_empty (i, j, ne, hi, hj) = both_ways (has 0 i) (sets.empty i) hi
 
--- Two of the letter's readers may be read next exactly when there is a fork.
-module _ (nodes : List (Node ContentAtom)) (x : Letter) (r : ℕ) (fits : r < 2 ^ 64) (told : Readers StandsFor nodes x r) (p : ℕ) (low : p ≤ 63) (row : ℕ) where
-  module _ (e : Exp ContentAtom) (codes : Codes 64 nodes e) (is : row ≡ next_atoms e p) where
-    goes : (q : ℕ) → Iff (has (bit_and row r) q ≡ true) ((v : List (Mark Letter)) × After StandsFor e p ((x, q) ∷ v))
-    goes q =
-        let agrees : Agrees (λ n. StandsFor) x (singleton p) r (leaves e) 0 = readers_agree StandsFor 64 nodes x r e codes told in
-        let (read, among) = reached_among (singleton p) r fits e q in
-        iff_then (iff_member (bit_and row r) q)
-        (iff_then (λ h. among (subst (λ s. Has (bit_and s r) q) is h), λ h. subst (λ s. Has (bit_and s r) q) (sym is) (read h))
-        (reads_next StandsFor content_alive e codes.few p low x r agrees q))
+-- Several atoms are reached exactly when there is a fork.
+pub forks_told : (nodes : List (Node ContentAtom)) (x : Letter) (p : ℕ) → p ≤ 63 → (r : ℕ) → Readers StandsFor nodes x r → (s : ℕ) → s ≡ singleton p → (d : Derived) (e : Exp ContentAtom) → Codes 64 nodes e → d ≡ value (derivation s r) 0 e → (t : ℕ) → t ≡ after_state s d → (b : Bool) → Decides b (Several t) → Decides b (ForksIn nodes x p)
+forks_told nodes x p low r told s at d e codes is t reached b decided = by b decided
+  where
+    agrees : Agrees (λ n. StandsFor) x (singleton p) r (leaves e) 0
+    agrees = readers_agree StandsFor 64 nodes x r e codes told
 
-    several_forks : Iff (Several (bit_and row r)) (ForksIn nodes x p)
-    several_forks = (
-      λ (i, j, ne, hi, hj).
-          let (v, h) = (goes i).0 hi in
-          let (w, k) = (goes j).0 hj in
-          (e, codes, record { one = i; other = j; differ = ne; after_one = v; after_other = w; first_way = h; second_way = k }),
-      λ (f, c, fork).
-          let same = subst (λ g. Forks StandsFor g x p) (codes_one 64 nodes f e c codes) fork in
-          (same.one, same.other, same.differ, (goes same.one).1 (same.after_one, same.first_way), (goes same.other).1 (same.after_other, same.second_way)),
-    )
+    t_is : t ≡ after_state (singleton p) (value (derivation (singleton p) r) 0 e)
+    t_is = reached ∙ ap (after_state s) is ∙ ap (λ k. after_state k (value (derivation k r) 0 e)) at
 
-  pub row_forks : NextIn nodes p row → Iff (Several (bit_and row r)) (ForksIn nodes x p)
-  row_forks (inl (e, codes, is)) = several_forks e codes is
-  row_forks (inr (never, none)) = (
-    λ h. absurd (several_empty (subst Several (ap (λ s. bit_and s r) none ∙ and_zero_l r) h)),
-    λ (e, codes, fork). absurd (never e codes),
-  )
+    way : (q : ℕ) → has t q ≡ true → (v : List (Mark Letter)) × After StandsFor e p ((x, q) ∷ v)
+    way q h = (reads_next StandsFor content_alive e codes.few p low x r agrees q).0 (subst (λ k. Has k q) t_is ((iff_member t q).0 h))
 
-decides_same : {P Q : Type 0} → Iff P Q → (b : Bool) → Decides b P → Decides b Q
-decides_same f true h = f.0 h
-decides_same f false h = λ k. h (f.1 k)
+    back : (q : ℕ) (v : List (Mark Letter)) → After StandsFor e p ((x, q) ∷ v) → has t q ≡ true
+    back q v h = (iff_member t q).1 (subst (λ k. Has k q) (sym t_is) ((reads_next StandsFor content_alive e codes.few p low x r agrees q).1 (v, h)))
 
--- Two readers of the letter stand in one row exactly when there is a fork somewhere.
-pub rows_fork : (nodes : List (Node ContentAtom)) (x : Letter) (r : ℕ) → r < 2 ^ 64 → Readers StandsFor nodes x r → (rows : List ℕ) → FollowSets nodes rows → (b : Bool) → Decides b ((p : ℕ) × (p < length rows) × Several (bit_and (get_or rows p 0) r)) → Decides b ((p : ℕ) × (p ≤ 63) × ForksIn nodes x p)
-rows_fork nodes x r fits told rows sets =
-    let wide = sets.wide in
-    decides_same (
-      λ (p, lt, h). let low : p ≤ 63 = omega arith in (p, low, (row_forks nodes x r fits told p low (get_or rows p 0) (sets.rowed p (omega arith))).0 h),
-      λ (p, low, f). (p, omega arith, (row_forks nodes x r fits told p low (get_or rows p 0) (sets.rowed p (omega arith))).1 f),
-    )
+    by : (b : Bool) → Decides b (Several t) → Decides b (ForksIn nodes x p)
+    by true (i, j, ne, hi, hj) =
+        let (v, h) = way i hi in
+        let (w, k) = way j hj in
+        (e, codes, record { one = i; other = j; differ = ne; after_one = v; after_other = w; first_way = h; second_way = k })
+    by false never = λ (f, c, fork).
+        let fork' = subst (λ g. Forks StandsFor g x p) (codes_one 64 nodes f e c codes) fork in
+        never (fork'.one, fork'.other, fork'.differ, back fork'.one fork'.after_one fork'.first_way, back fork'.other fork'.after_other fork'.second_way)
 
 -- A fork by any letter after any atom is an ambiguity.
 pub found_ambiguous : (nodes : List (Node ContentAtom)) (x : Letter) (p : ℕ) → ForksIn nodes x p → AmbiguousIn nodes

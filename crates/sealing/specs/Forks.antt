@@ -1,16 +1,14 @@
 -- Where two atoms may read one letter: ambiguity, place by place.
-use Rattle.std.specs.Prelude.{◌≡◌, ℕ, ◌<◌, ◌≤◌, true, ◌≢◌, ◌⊎◌, List, ◌∷◌, length, slice_index}
+use Rattle.std.specs.Prelude.{◌≡◌, ℕ, ◌≤◌, true, ◌≢◌, ◌⊎◌, List, ◌∷◌}
 use Rattle.bits.specs.Sets.{has}
 use Rattle.engine.specs.Atoms.{StandsFor, content_sample}
 use Rattle.engine.specs.Languages.{Language}
 use Rattle.engine.specs.declared.alphabet.ContentAtom.{ContentAtom}
 use Rattle.engine.specs.declared.alphabet.Letter.{Letter}
 use Rattle.models.specs.Expressions.{Exp}
-use Rattle.derivative.specs.Derivation.{derivation, after_state, everything}
-use Rattle.models.specs.Folds.{Codes, value}
+use Rattle.models.specs.Folds.{Codes}
 use Rattle.models.specs.Marks.{Mark, MarkedWords, ReadsMarked, Ambiguous}
 use Rattle.models.specs.Rests.{Rest}
-use Rattle.models.specs.Sets.{singleton}
 use Rattle.models.specs.declared.node.Node.{Node}
 use Rattle.models.specs.declared.node.Node.TheVariants.{Atom}
 
@@ -43,17 +41,3 @@ AmbiguousIn nodes = (e : Exp ContentAtom) × Codes 64 nodes e × Ambiguous Stand
 -- The set has two members.
 abbrev pub Several : ℕ → Type 0
 Several set = (p : ℕ) × (q : ℕ) × (p ≢ q) × (has set p ≡ true) × (has set q ≡ true)
-
--- The atoms that may be read straight after atom p, whatever the letter; 0 means the beginning.
-abbrev pub next_atoms : {A : Type 0} → Exp A → ℕ → ℕ
-next_atoms e p = after_state (singleton p) (value (derivation (singleton p) everything) 0 e)
-
--- The set has those atoms of the expression that the nodes code, and is empty where they code none.
-abbrev pub NextIn : List (Node ContentAtom) → ℕ → ℕ → Type 0
-NextIn nodes p set =
-    ((e : Exp ContentAtom) × Codes 64 nodes e × (set ≡ next_atoms e p)) ⊎ (((e : Exp ContentAtom) → Codes 64 nodes e → ⊥) × (set ≡ 0))
-
--- A row for the beginning and for each atom that an expression can have.
-pub record FollowSets (nodes : List (Node ContentAtom)) (rows : List ℕ) : Type 0 where
-  pub wide : length rows ≡ 64
-  pub rowed : (p : ℕ) → p < 64 → NextIn nodes p (slice_index rows p)

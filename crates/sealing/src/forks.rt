@@ -1,9 +1,9 @@
 // Whether an expression is ambiguous: whether two of its atoms may read one letter after the same atom.
 
-ghost use Rattle.std.specs.Prelude.{◌≡◌, ℕ, ◌<◌, ◌≤◌, length, bit_and, slice_index};
+ghost use Rattle.std.specs.Prelude.{◌≡◌, ℕ, ◌≤◌};
 ghost use Rattle.engine.specs.Atoms.{content_sample};
 ghost use Rattle.engine.specs.Languages.{Decides};
-ghost use Rattle.sealing.specs.Forks.{AmbiguousIn, FollowSets, ForksBy, ForksIn, NextIn, Several};
+ghost use Rattle.sealing.specs.Forks.{AmbiguousIn, ForksBy, ForksIn, Several};
 
 use bits::{lowest, without};
 use derivative::known;
@@ -20,46 +20,28 @@ fn several(set: u64) -> bool
     }
 }
 
-// What may be read straight after an atom, or at the beginning where it is 0, whatever the letter.
-fn next_atoms(nodes: &[Node<ContentAtom>], after: u8) -> u64
-    ensures { NextIn nodes.now after result }
+// Whether after an atom, or at the beginning where it is 0, two atoms may read the letter.
+fn forks(nodes: &[Node<ContentAtom>], letter: Letter, after: u8) -> bool
+    requires { after ≤ 63 }
+    ensures { Decides result (ForksIn nodes.now letter after) }
 {
     let state = only(after);
-    match known(nodes, state, u64::MAX) {
-        Some(derived) => derived.reached(state),
-        None => 0,
+    match known(nodes, state, readers(nodes, letter)) {
+        Some(derived) => several(derived.reached(state)),
+        None => false,
     }
 }
 
-// Writes what may be read straight after each atom. No row hangs on a letter, so that each is worked out
-// once.
-fn write_rows(nodes: &[Node<ContentAtom>], rows: &mut [u64])
-    requires { length rows.old ≡ 64 }
-    ensures { FollowSets nodes.now rows.new }
+// Whether two atoms may read the letter after some atom or at the beginning.
+fn forks_somewhere(nodes: &[Node<ContentAtom>], letter: Letter) -> bool
+    ensures { Decides result ((p : ℕ) × (p ≤ 63) × ForksIn nodes.now letter p) }
 {
     for after in 0..64 {
-        rows[after as usize] = next_atoms(nodes, after);
-    }
-}
-
-// Whether two members of a set stand in one row.
-fn together(rows: &[u64], set: u64) -> bool
-    ensures { Decides result ((p : ℕ) × (p < length rows.now) × Several (bit_and (slice_index rows.now p) set)) }
-{
-    for row in rows {
-        if several(*row & set) {
+        if forks(nodes, letter, after) {
             return true;
         }
     }
     false
-}
-
-// Whether two atoms may read the letter after some atom or at the beginning.
-fn forks_somewhere(nodes: &[Node<ContentAtom>], rows: &[u64], letter: Letter) -> bool
-    requires { FollowSets nodes.now rows.now }
-    ensures { Decides result ((p : ℕ) × (p ≤ 63) × ForksIn nodes.now letter p) }
-{
-    together(rows, readers(nodes, letter))
 }
 
 // A letter that the atom stands for. Where two atoms have a letter in common, they have the sample of
@@ -75,12 +57,11 @@ fn sample(atom: ContentAtom) -> Letter
 }
 
 // Whether two atoms may read the sample of the node's atom, if it has one.
-fn forks_at(nodes: &[Node<ContentAtom>], rows: &[u64], node: Node<ContentAtom>) -> bool
-    requires { FollowSets nodes.now rows.now }
+fn forks_at(nodes: &[Node<ContentAtom>], node: Node<ContentAtom>) -> bool
     ensures { Decides result (ForksBy nodes.now node) }
 {
     match node {
-        Node::Atom(atom) => forks_somewhere(nodes, rows, sample(atom)),
+        Node::Atom(atom) => forks_somewhere(nodes, sample(atom)),
         _ => false,
     }
 }
@@ -89,10 +70,8 @@ fn forks_at(nodes: &[Node<ContentAtom>], rows: &[u64], node: Node<ContentAtom>) 
 pub fn ambiguous(nodes: &[Node<ContentAtom>]) -> bool
     ensures { Decides result (AmbiguousIn nodes.now) }
 {
-    let mut rows = [0; 64];
-    write_rows(nodes, &mut rows);
     for node in nodes {
-        if forks_at(nodes, &rows, *node) {
+        if forks_at(nodes, *node) {
             return true;
         }
     }

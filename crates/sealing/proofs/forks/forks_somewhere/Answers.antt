@@ -1,5 +1,9 @@
-use Rattle.sealing.proofs.Forking.{rows_fork}
+use Rattle.std.proofs.Common.{arith, below_more}
+use Rattle.sealing.proofs.Firsts.{decided_no}
 use Rattle.sealing.proofs.forks.forks_somewhere.Goals as goal
 
+pub loop-after-preserved : goal.loop-after-preserved
+loop-after-preserved c = below_more _ _ c.loop-after.invariant (decided_no c.forks.result c.forks.ensures c.if-forks.false)
+
 pub returns : goal.returns
-returns c = rows_fork c.args.nodes.now c.args.letter c.readers.result c.readers.type_inv c.readers.ensures c.args.rows.now c.requires c.together.result c.together.ensures
+returns c (p, low, f) = c.loop-after.invariant p (omega arith) f
