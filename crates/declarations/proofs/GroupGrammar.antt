@@ -106,8 +106,8 @@ module _ (read : List ℕ → Front (Exp Name)) (Inner : List ℕ → Exp Name �
   choice_sound : (inside : List ℕ) (first : Exp Name) (after : List ℕ) (e : Exp Name) (end rest : List ℕ) → Cp Inner (skip inside) first after → first_is (λ b. eqb b 124) (skip after) ≡ true → Repeats (Member Inner by_bar) first after e end → skip end ≡ 41 ∷ rest → Choice Inner (40 ∷ inside) e rest
   choice_sound inside first after e end rest cp test (none es et) c =
       absurd (both_ways false refl (sym (ap (first_is (λ b. eqb b 124)) (ap skip et ∙ c)) ∙ test))
-  choice_sound inside first after e end rest cp test (more second after-second member members) c =
-      (inside, first, after, second, after-second, end, refl, cp, member, members, c)
+  choice_sound inside first after e end rest cp test (more second after_second member members) c =
+      (inside, first, after, second, after_second, end, refl, cp, member, members, c)
 
   joint_sound : (inside : List ℕ) (first : Exp Name) (after : List ℕ) (e : Exp Name) (rest : List ℕ) → Cp Inner (skip inside) first after → shut (run (member read (joint_at after)) first after) ≡ got e rest → Bracketed (40 ∷ inside) e rest
   joint_sound inside first after e rest cp h = go (first_is (λ b. eqb b 124) (skip after)) refl h
@@ -138,9 +138,9 @@ module _ (read : List ℕ → Front (Exp Name)) (Inner : List ℕ → Exp Name �
   comma_joint first after e end rest (more s t (mid, f, is, cp, j) members) c = at_comma after mid is
 
   bracketed_complete : (t : List ℕ) (e : Exp Name) (rest : List ℕ) → Bracketed t e rest → in_brackets read t ≡ got e rest
-  bracketed_complete t e rest (inl (inside, first, after, second, after-second, end, opening, cp, member, members, c)) =
+  bracketed_complete t e rest (inl (inside, first, after, second, after_second, end, opening, cp, member, members, c)) =
       ap (in_brackets read) opening
-      ∙ members_read by_bar inside first after e end rest cp (at_bar after member.0 member.2) (more second after-second member members) c
+      ∙ members_read by_bar inside first after e end rest cp (at_bar after member.0 member.2) (more second after_second member members) c
   bracketed_complete t e rest (inr (inside, first, after, end, opening, cp, members, c)) =
       ap (in_brackets read) opening
       ∙ members_read by_comma inside first after e end rest cp (comma_joint first after e end rest members c) members c

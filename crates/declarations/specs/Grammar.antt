@@ -54,10 +54,10 @@ module _ (Group : List ℕ → Exp Name → List ℕ → Type 0) where
   -- choice ::= '(' S? cp ( S? '|' S? cp )+ S? ')'
   abbrev pub Choice : List ℕ → Exp Name → List ℕ → Type 0
   Choice text e rest =
-      (inside : List ℕ) × (first : Exp Name) × (after_first : List ℕ) × (second : Exp Name) × (after-second : List ℕ) × (end : List ℕ)
+      (inside : List ℕ) × (first : Exp Name) × (after_first : List ℕ) × (second : Exp Name) × (after_second : List ℕ) × (end : List ℕ)
       × (text ≡ 40 ∷ inside) × Cp (skip inside) first after_first
-      × Member by_bar first after_first second after-second
-      × Repeats (Member by_bar) second after-second e end × (skip end ≡ 41 ∷ rest)
+      × Member by_bar first after_first second after_second
+      × Repeats (Member by_bar) second after_second e end × (skip end ≡ 41 ∷ rest)
 
   -- seq ::= '(' S? cp ( S? ',' S? cp )* S? ')'
   abbrev pub Seq : List ℕ → Exp Name → List ℕ → Type 0

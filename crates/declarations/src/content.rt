@@ -5,7 +5,7 @@ ghost use Rattle.declarations.specs.Answers.{numbered_names};
 ghost use Rattle.declarations.specs.Contents.{anything};
 ghost use Rattle.declarations.specs.Grammar.{deepest};
 ghost use Rattle.declarations.specs.Inner.{ContentAt};
-ghost use Rattle.declarations.specs.Readers.{read_content, or_else, read_group, as_children, marked as with-marks, bracketed as in-bracket};
+ghost use Rattle.declarations.specs.Readers.{read_content, or_else, read_group, as_children, marked as with_marks, bracketed as in_bracket};
 ghost use Rattle.engine.specs.declared.alphabet.ContentAtom.TheVariants.{All as OfAll};
 ghost use Rattle.models.specs.declared.node.Node.TheVariants.{Empty as OfEmpty, Atom as OfAtom, Star as OfStar};
 ghost use Rattle.scan.specs.Readings.{word};
@@ -80,7 +80,7 @@ fn children(
     used: usize,
 ) -> Option<Body>
     requires room { used + (length text.now - at) < 2 ^ 64 }
-    ensures { ContentAt text.now (numbered_names text.now entries.now) at (as_children (with-marks (read_group deepest (drop at text.now)))) nodes.old used result nodes.new }
+    ensures { ContentAt text.now (numbered_names text.now entries.now) at (as_children (with_marks (read_group deepest (drop at text.now)))) nodes.old used result nodes.new }
 {
     let inner = group(text, at, DEEPEST, entries, nodes, used)?;
     let part = marked(text, inner, nodes, used);
@@ -99,7 +99,7 @@ fn bracketed(
     used: usize,
 ) -> Option<Body>
     requires room { used + (length text.now - at) < 2 ^ 64 }
-    ensures { ContentAt text.now (numbered_names text.now entries.now) at (in-bracket (drop at text.now) (drop at text.now)) nodes.old used result nodes.new }
+    ensures { ContentAt text.now (numbered_names text.now entries.now) at (in_bracket (drop at text.now) (drop at text.now)) nodes.old used result nodes.new }
 {
     if !byte_is(text, at, OPENING) {
         return None;
@@ -120,7 +120,7 @@ fn any_or_bracketed(
     used: usize,
 ) -> Option<Body>
     requires room { used + (length text.now - at) < 2 ^ 64 }
-    ensures { ContentAt text.now (numbered_names text.now entries.now) at (or_else anything (in-bracket (drop at text.now) (drop at text.now)) (word (codes "ANY") (drop at text.now))) nodes.old used result nodes.new }
+    ensures { ContentAt text.now (numbered_names text.now entries.now) at (or_else anything (in_bracket (drop at text.now) (drop at text.now)) (word (codes "ANY") (drop at text.now))) nodes.old used result nodes.new }
 {
     match word_end(text, at, b"ANY") {
         Some(end) => Some(write_any(end, count(entries), nodes, used)),

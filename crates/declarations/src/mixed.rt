@@ -5,11 +5,11 @@ ghost use Rattle.std.specs.Prelude.{◌≡◌, ℕ, ◌+◌, ◌-◌, ◌^◌, �
 ghost use Rattle.declarations.specs.Answers.{Nodes, numbered_names};
 ghost use Rattle.declarations.specs.Inner.{PartIs, ContentAt, SeenIs};
 ghost use Rattle.declarations.specs.Models.{or_names};
-ghost use Rattle.declarations.specs.Readers.{mixed_name, shut, starred as read-star};
+ghost use Rattle.declarations.specs.Readers.{mixed_name, shut, starred as read_star};
 ghost use Rattle.engine.specs.declared.alphabet.ContentAtom.TheVariants.{Text as OfText};
 ghost use Rattle.models.specs.declared.node.Node.TheVariants.{Star as OfStar};
 ghost use Rattle.models.specs.Expressions.{atom};
-ghost use Rattle.scan.specs.Lists.{number_of, distinct as all-distinct};
+ghost use Rattle.scan.specs.Lists.{number_of, distinct as all_distinct};
 ghost use Rattle.scan.specs.Names.{Name};
 ghost use Rattle.scan.specs.Readings.{got, run};
 
@@ -72,7 +72,7 @@ fn starred(
     used: usize,
 ) -> Option<Body>
     requires room { used + part.nodes + 1 < 2 ^ 64 }
-    ensures { (names : List Name) (at : ℕ) (its : List Name) (rest : List ℕ) (table : Nodes) → PartIs text.now names at (or_names names (atom OfText) its) its rest table used part nodes.old → part.end < end → end ≤ length text.now → (part.known ≡ true → distinct ≡ all-distinct its) → ContentAt text.now names at (read-star (got its (drop end text.now))) table used result nodes.new }
+    ensures { (names : List Name) (at : ℕ) (its : List Name) (rest : List ℕ) (table : Nodes) → PartIs text.now names at (or_names names (atom OfText) its) its rest table used part nodes.old → part.end < end → end ≤ length text.now → (part.known ≡ true → distinct ≡ all_distinct its) → ContentAt text.now names at (read_star (got its (drop end text.now))) table used result nodes.new }
 {
     if byte_is(text, end, STAR) {
         let with_star = any_number(end + 1, part, distinct, nodes, used);
@@ -97,7 +97,7 @@ pub fn mixed(
     requires room { used + (length text.now - at) < 2 ^ 64 }
     requires forward { at < word }
     requires inside { word ≤ length text.now }
-    ensures { ContentAt text.now (numbered_names text.now entries.now) at (read-star (shut (run mixed_name [] (drop word text.now)))) nodes.old used result nodes.new }
+    ensures { ContentAt text.now (numbered_names text.now entries.now) at (read_star (shut (run mixed_name [] (drop word text.now)))) nodes.old used result nodes.new }
 {
     put(nodes, used, Node::Atom(ContentAtom::Text));
     let mut part = Part {

@@ -2,7 +2,7 @@
 
 ghost use Rattle.std.specs.Prelude.{◌≡◌, ◌+◌, ◌-◌, ◌^◌, ◌<◌, length, drop};
 ghost use Rattle.declarations.specs.Answers.{numbered_names};
-ghost use Rattle.declarations.specs.Grammar.{sign as joint-sign};
+ghost use Rattle.declarations.specs.Grammar.{sign as joint_sign};
 ghost use Rattle.declarations.specs.Inner.{ExpressionAt, read_unit, joint_of};
 ghost use Rattle.declarations.specs.Readers.{read_cp, read_group};
 
@@ -97,7 +97,7 @@ fn unit(
 
 // The byte that joins the members of a group.
 fn sign(bar: bool) -> u8
-    ensures { result ≡ joint-sign (joint_of bar) }
+    ensures { result ≡ joint_sign (joint_of bar) }
 {
     if bar { BAR } else { COMMA }
 }

@@ -27,13 +27,13 @@ module _ (read : List ℕ → Front (Exp ByteRange)) (Inner : List ℕ → Exp B
 
   from_range : (t mid : List ℕ) (e : Exp ByteRange) (rest : List ℕ) → t ≡ codes "[range " ++ mid → read_range mid ≡ got e rest → One t e rest
   from_range t mid e rest opened h =
-      let (range, after-low, before_high, after-high, low, space, high, closed, is) = range_agrees.sound mid e rest h in
-      inl (mid, range, after-low, before_high, after-high, opened, low, space, high, closed, is)
+      let (range, after_low, before_high, after_high, low, space, high, closed, is) = range_agrees.sound mid e rest h in
+      inl (mid, range, after_low, before_high, after_high, opened, low, space, high, closed, is)
 
   from_members : (joint : Joint) (t mid : List ℕ) (e : Exp ByteRange) (rest : List ℕ) → t ≡ opening joint ++ mid → read_members read joint mid ≡ got e rest → One t e rest
   from_members joint t mid e rest opened h =
-      let (first, after_first, second, after-second, end, inner, m, members, closed) = (members_agree read Inner reading joint).sound mid e rest h in
-      inr (inl (joint, (mid, first, after_first, second, after-second, end, opened, inner, m, members, closed)))
+      let (first, after_first, second, after_second, end, inner, m, members, closed) = (members_agree read Inner reading joint).sound mid e rest h in
+      inr (inl (joint, (mid, first, after_first, second, after_second, end, opened, inner, m, members, closed)))
 
   from_marked : (mark : Mark) (t mid : List ℕ) (e : Exp ByteRange) (rest : List ℕ) → t ≡ mark_opening mark ++ mid → read_marked read mark mid ≡ got e rest → One t e rest
   from_marked mark t mid e rest opened h =
@@ -67,21 +67,21 @@ module _ (read : List ℕ → Front (Exp ByteRange)) (Inner : List ℕ → Exp B
   at_marked perhaps mid = refl
 
   by_word_complete : (t : List ℕ) (e : Exp ByteRange) (rest : List ℕ) → One t e rest → read_by_word read t ≡ got e rest
-  by_word_complete t e rest (inl (mid, range, after-low, before_high, after-high, opened, low, space, high, closed, is)) =
+  by_word_complete t e rest (inl (mid, range, after_low, before_high, after_high, opened, low, space, high, closed, is)) =
       ap (read_by_word read) opened
-      ∙ (at_range mid ∙ range_agrees.complete mid e rest (range, after-low, before_high, after-high, low, space, high, closed, is))
-  by_word_complete t e rest (inr (inl (joint, (mid, first, after_first, second, after-second, end, opened, inner, m, members, closed)))) =
+      ∙ (at_range mid ∙ range_agrees.complete mid e rest (range, after_low, before_high, after_high, low, space, high, closed, is))
+  by_word_complete t e rest (inr (inl (joint, (mid, first, after_first, second, after_second, end, opened, inner, m, members, closed)))) =
       ap (read_by_word read) opened
-      ∙ (at_members joint mid ∙ (members_agree read Inner reading joint).complete mid e rest (first, after_first, second, after-second, end, inner, m, members, closed))
+      ∙ (at_members joint mid ∙ (members_agree read Inner reading joint).complete mid e rest (first, after_first, second, after_second, end, inner, m, members, closed))
   by_word_complete t e rest (inr (inr (mark, (mid, inner, end, opened, inside, closed, is)))) =
       ap (read_by_word read) opened
       ∙ (at_marked mark mid ∙ (marked_agrees read Inner reading mark).complete mid e rest (inner, end, inside, closed, is))
 
   one_shortens : (t : List ℕ) (e : Exp ByteRange) (rest : List ℕ) → One t e rest → length rest < length t
-  one_shortens t e rest (inl (mid, range, after-low, before_high, after-high, opened, low, space, high, closed, is)) =
-      omega (arith, ap length opened, length-append (codes "[range ") mid, range_shortens mid e rest (range, after-low, before_high, after-high, low, space, high, closed, is))
-  one_shortens t e rest (inr (inl (joint, (mid, first, after_first, second, after-second, end, opened, inner, m, members, closed)))) =
-      omega (arith, ap length opened, length-append (opening joint) mid, members_shorten read Inner reading joint mid e rest (first, after_first, second, after-second, end, inner, m, members, closed))
+  one_shortens t e rest (inl (mid, range, after_low, before_high, after_high, opened, low, space, high, closed, is)) =
+      omega (arith, ap length opened, length-append (codes "[range ") mid, range_shortens mid e rest (range, after_low, before_high, after_high, low, space, high, closed, is))
+  one_shortens t e rest (inr (inl (joint, (mid, first, after_first, second, after_second, end, opened, inner, m, members, closed)))) =
+      omega (arith, ap length opened, length-append (opening joint) mid, members_shorten read Inner reading joint mid e rest (first, after_first, second, after_second, end, inner, m, members, closed))
   one_shortens t e rest (inr (inr (mark, (mid, inner, end, opened, inside, closed, is)))) =
       omega (arith, ap length opened, length-append (mark_opening mark) mid, marked_shortens read Inner reading mark mid e rest (inner, end, inside, closed, is))
 

@@ -45,9 +45,9 @@ joined_over joint s (got e r) h = over_next (sym h)
 -- The members of a list from behind its opening word on.
 abbrev pub Listed : (List ℕ → Exp ByteRange → List ℕ → Type 0) → Joint → List ℕ → Exp ByteRange → List ℕ → Type 0
 Listed Inner joint t e rest =
-    (first : Exp ByteRange) × (after_first : List ℕ) × (second : Exp ByteRange) × (after-second : List ℕ) × (end : List ℕ)
-    × Inner t first after_first × Member Inner joint first after_first second after-second
-    × Repeats (Member Inner joint) second after-second e end × (end ≡ 93 ∷ rest)
+    (first : Exp ByteRange) × (after_first : List ℕ) × (second : Exp ByteRange) × (after_second : List ℕ) × (end : List ℕ)
+    × Inner t first after_first × Member Inner joint first after_first second after_second
+    × Repeats (Member Inner joint) second after_second e end × (end ≡ 93 ∷ rest)
 
 module _ (read : List ℕ → Front (Exp ByteRange)) (Inner : List ℕ → Exp ByteRange → List ℕ → Type 0) (reading : Reading read Inner) (joint : Joint) where
   member_next : (s s' : Exp ByteRange) (x t : List ℕ) → member read joint s x ≡ next s' t → (mid : List ℕ) × (e : Exp ByteRange) × (x ≡ 32 ∷ mid) × (read mid ≡ got e t) × (s' ≡ join joint s e)
@@ -97,32 +97,32 @@ module _ (read : List ℕ → Front (Exp ByteRange)) (Inner : List ℕ → Exp B
   members_sound t e rest h =
       let (first, after_first, r, h₁) = staged (with_first read joint) refl (read t) e rest h in
       let (v, mid, space, h₂) = staged (behind_first read joint first) refl (word (codes " ") after_first) e rest h₁ in
-      let (f, after-second, r', h₃) = staged (with_second read joint first) refl (read mid) e rest h₂ in
-      let (end, finishes, closed) = ended_from (run (member read joint) (join joint first f) after-second) e rest h₃ in (
+      let (f, after_second, r', h₃) = staged (with_second read joint first) refl (read mid) e rest h₂ in
+      let (end, finishes, closed) = ended_from (run (member read joint) (join joint first f) after_second) e rest h₃ in (
         first,
         after_first,
         join joint first f,
-        after-second,
+        after_second,
         end,
         reading.agree.sound t first after_first r,
-        (mid, f, word_sound (codes " ") after_first v mid space, reading.agree.sound mid f after-second r', refl),
-        (led (member read joint) (Member Inner joint) member_steps (join joint first f) after-second (finished e end) finishes).0,
+        (mid, f, word_sound (codes " ") after_first v mid space, reading.agree.sound mid f after_second r', refl),
+        (led (member read joint) (Member Inner joint) member_steps (join joint first f) after_second (finished e end) finishes).0,
         closed,
       )
 
   members_complete : (t : List ℕ) (e : Exp ByteRange) (rest : List ℕ) → Listed Inner joint t e rest → read_members read joint t ≡ got e rest
   unfolding word with_first behind_first with_second ended
-  members_complete t e rest (first, after_first, second, after-second, end, inner, (mid, f, space, inner', j), members, closed) =
+  members_complete t e rest (first, after_first, second, after_second, end, inner, (mid, f, space, inner', j), members, closed) =
       ap (with_first read joint) (reading.agree.complete t first after_first inner)
       ∙ (ap (λ y. behind_first read joint first (word (codes " ") y)) space
-      ∙ (ap (with_second read joint first) (reading.agree.complete mid f after-second inner')
-      ∙ (ap (λ y. ended (run (member read joint) y after-second)) (sym j)
-      ∙ (ap ended (finished_by (member read joint) (Member Inner joint) member_steps second e after-second end members (member_ended e end rest closed))
+      ∙ (ap (with_second read joint first) (reading.agree.complete mid f after_second inner')
+      ∙ (ap (λ y. ended (run (member read joint) y after_second)) (sym j)
+      ∙ (ap ended (finished_by (member read joint) (Member Inner joint) member_steps second e after_second end members (member_ended e end rest closed))
       ∙ shut_there e end rest closed))))
 
   pub members_agree : Agree (read_members read joint) (Listed Inner joint)
   members_agree = record { sound = members_sound; complete = members_complete }
 
   pub members_shorten : (t : List ℕ) (e : Exp ByteRange) (rest : List ℕ) → Listed Inner joint t e rest → length rest < length t
-  members_shorten t e rest (first, after_first, second, after-second, end, inner, m, members, closed) =
-      omega (arith, reading.shortens t first after_first (reading.agree.complete t first after_first inner), member_steps.shrinks first second after_first after-second (member_steps.complete first second after_first after-second m), repeats_le (member read joint) (Member Inner joint) member_steps second e after-second end members, ap length closed)
+  members_shorten t e rest (first, after_first, second, after_second, end, inner, m, members, closed) =
+      omega (arith, reading.shortens t first after_first (reading.agree.complete t first after_first inner), member_steps.shrinks first second after_first after_second (member_steps.complete first second after_first after_second m), repeats_le (member read joint) (Member Inner joint) member_steps second e after_second end members, ap length closed)

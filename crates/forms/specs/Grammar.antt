@@ -9,10 +9,10 @@ use Rattle.forms.specs.Numbers.{ReadsByte}
 -- `[range low high]`, where low is at most high: the bytes from low to high.
 abbrev pub Range : List ℕ → Exp ByteRange → List ℕ → Type 0
 Range text e rest =
-    (after_word : List ℕ) × (range : ByteRange) × (after-low : List ℕ) × (before_high : List ℕ) × (after-high : List ℕ)
-    × (text ≡ codes "[range " ++ after_word) × ReadsByte after_word range.low after-low
-    × (after-low ≡ 32 ∷ before_high) × ReadsByte before_high range.high after-high
-    × (after-high ≡ 93 ∷ rest) × (e ≡ atom range)
+    (after_word : List ℕ) × (range : ByteRange) × (after_low : List ℕ) × (before_high : List ℕ) × (after_high : List ℕ)
+    × (text ≡ codes "[range " ++ after_word) × ReadsByte after_word range.low after_low
+    × (after_low ≡ 32 ∷ before_high) × ReadsByte before_high range.high after_high
+    × (after_high ≡ 93 ∷ rest) × (e ≡ atom range)
 
 -- How the members of a list are joined.
 pub data Joint : Type 0 where
@@ -50,10 +50,10 @@ module _ (Inner : List ℕ → Exp ByteRange → List ℕ → Type 0) where
   -- `[seq e e ..]` or `[alt e e ..]`, with two members or more.
   abbrev pub Members : Joint → List ℕ → Exp ByteRange → List ℕ → Type 0
   Members joint text e rest =
-      (inside : List ℕ) × (first : Exp ByteRange) × (after_first : List ℕ) × (second : Exp ByteRange) × (after-second : List ℕ) × (end : List ℕ)
+      (inside : List ℕ) × (first : Exp ByteRange) × (after_first : List ℕ) × (second : Exp ByteRange) × (after_second : List ℕ) × (end : List ℕ)
       × (text ≡ opening joint ++ inside) × Inner inside first after_first
-      × Member joint first after_first second after-second
-      × Repeats (Member joint) second after-second e end × (end ≡ 93 ∷ rest)
+      × Member joint first after_first second after_second
+      × Repeats (Member joint) second after_second e end × (end ≡ 93 ∷ rest)
 
   -- `[star e]`, `[plus e]` or `[opt e]`.
   abbrev pub Marked : Mark → List ℕ → Exp ByteRange → List ℕ → Type 0

@@ -1,7 +1,7 @@
 // Items, told by places of the text.
 
 ghost use Rattle.std.specs.Prelude.{◌≡◌, ◌<◌, length, drop};
-ghost use Rattle.items.specs.Places.{ItemOf, said, spanned as spanned-bytes};
+ghost use Rattle.items.specs.Places.{ItemOf, said, spanned as spanned_bytes};
 ghost use Rattle.items.specs.Readers.{closed_with};
 ghost use Rattle.scan.specs.Readings.{word as read_word};
 
@@ -35,7 +35,7 @@ pub struct Item {
 
 // The bytes of a span: of its places those that the text has.
 pub fn spanned<'t>(text: &'t [u8], span: Span) -> &'t [u8]
-    ensures { result.now ≡ spanned-bytes text.now span }
+    ensures { result.now ≡ spanned_bytes text.now span }
 {
     name_of(
         text,

@@ -1,7 +1,7 @@
 -- A text that is found from its last digit on, with what is left of the number before it.
 use Rattle.std.proofs.Common.{◌≡◌, ℕ, zero, suc, ◌+◌, ◌-◌, ◌*◌, ◌/◌, ◌%◌, ◌<◌, ◌≤◌, List, [], ◌∷◌, length, get_or, sym, ap, ◌∙◌, arith}
 use native.Mathlib.Decide.{dec_lt}
-use Rattle.line.specs.Decimals.{value_after, Digits, Decimal, One_decimal}
+use Rattle.line.specs.Decimals.{value_after, Digits, Decimal, OneDecimal}
 use Rattle.line.proofs.Reading.{at_most_one}
 
 -- The digits stand behind the number that is left, and together they are n.
@@ -48,5 +48,5 @@ spelled_within (suc turns) n left ds few tail =
 pub spelled : (n : ℕ) → (ds : List ℕ) × Decimal n ds
 spelled n = spelled_within n n (n / 10) ((48 + n % 10) ∷ []) (omega arith) (last_digit n)
 
-pub one_decimal : One_decimal
+pub one_decimal : OneDecimal
 one_decimal n = ((spelled n).0, (spelled n).1, λ others whole. at_most_one n others (spelled n).0 whole (spelled n).1)

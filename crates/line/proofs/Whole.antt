@@ -2,7 +2,7 @@
 use Rattle.std.proofs.Common.{◌≡◌, ℕ, ◌-◌, List, ◌++◌, length, drop, replicate, Some, None, refl, ap, ◌∙◌, arith}
 use lib.ListN.{length-replicate}
 use Rattle.std.proofs.lemmas.List.{drop-replicate}
-use Rattle.line.specs.Lines.{WrittenLine, One_text, pieces}
+use Rattle.line.specs.Lines.{WrittenLine, OneText, pieces}
 use Rattle.line.specs.Placed.{PutPieces}
 use Rattle.line.specs.declared.lines.Line.{Line}
 use Rattle.line.proofs.Pieces.{stood, fell_short, some_text, same_text}
@@ -45,7 +45,7 @@ module _ (line : Line) (buffer clean after : List ℕ) (zero_first : clean ≡ z
         };
       }
 
-pub one_text : One_text
+pub one_text : OneText
 one_text line =
     let some = some_text (pieces line) in
     (some.0, some.1, λ others shows. same_text (pieces line) others some.0 shows some.1)

@@ -20,5 +20,5 @@ pub record Decimal (n : ℕ) (ds : List ℕ) : Type 0 where
   pub value : value_after 0 ds ≡ n
 
 -- Every number has exactly one text in base ten.
-abbrev pub One_decimal : Type 0
-One_decimal = (n : ℕ) → (ds : List ℕ) × Decimal n ds × ((others : List ℕ) → Decimal n others → others ≡ ds)
+abbrev pub OneDecimal : Type 0
+OneDecimal = (n : ℕ) → (ds : List ℕ) × Decimal n ds × ((others : List ℕ) → Decimal n others → others ≡ ds)

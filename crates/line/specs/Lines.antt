@@ -51,8 +51,8 @@ abbrev pub Shows : Line → List ℕ → Type 0
 Shows line bs = Spells (pieces line) bs
 
 -- Every line has exactly one list of bytes.
-abbrev pub One_text : Type 0
-One_text = (line : Line) → (bs : List ℕ) × Shows line bs × ((others : List ℕ) → Shows line others → others ≡ bs)
+abbrev pub OneText : Type 0
+OneText = (line : Line) → (bs : List ℕ) × Shows line bs × ((others : List ℕ) → Shows line others → others ≡ bs)
 
 -- What the buffer holds after the bytes were written from its beginning on: where they fit, they and then zeros, and
 -- the answer is how many they are; where they do not, zeros, and the answer is 0.

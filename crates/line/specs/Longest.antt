@@ -18,4 +18,4 @@ NameWithin most (RefusedAgreement refusal layer byte) = Unit {0}
 
 -- No line whose name is that short is longer than this.
 abbrev pub NoneLonger : ℕ → ℕ → Type 0
-NoneLonger most-of-name most = (line : Line) → Typed line → NameWithin most-of-name line → (bs : List ℕ) → Shows line bs → length bs ≤ most
+NoneLonger most_of_name most = (line : Line) → Typed line → NameWithin most_of_name line → (bs : List ℕ) → Shows line bs → length bs ≤ most

@@ -1,7 +1,7 @@
 // Bytes and numbers that are put into a lent buffer at a place. Nobody above knows how a number's digits are found.
 
 ghost use Rattle.std.specs.Prelude.{◌≤◌, drop};
-ghost use Rattle.line.specs.Decimals.{Decimal, One_decimal};
+ghost use Rattle.line.specs.Decimals.{Decimal, OneDecimal};
 ghost use Rattle.line.specs.Placed.{Put, Kept, PutNumber};
 
 // Puts the bytes at the place, and answers the place behind them.
@@ -39,7 +39,7 @@ fn spell(places: &mut [u8; MOST_DIGITS], number: u64) -> usize
 pub fn put_number(out: &mut [u8], at: usize, number: u64) -> Option<usize>
     ensures written { PutNumber number out.old at out.new result }
     ensures same { Kept out.old out.new result }
-    ensures one { One_decimal }
+    ensures one { OneDecimal }
 {
     let mut places = [b'0'; MOST_DIGITS];
     let first = spell(&mut places, number);

@@ -1,7 +1,7 @@
 // A line written into a lent buffer, piece by piece.
 
 ghost use Rattle.std.specs.Prelude.{◌≡◌, ◌<◌, ◌≤◌, [], ◌∷◌, length, replicate, codes};
-ghost use Rattle.line.specs.Lines.{layer_word, agreement_layer_word, name_label, line_end, pieces, WrittenLine, One_text};
+ghost use Rattle.line.specs.Lines.{layer_word, agreement_layer_word, name_label, line_end, pieces, WrittenLine, OneText};
 ghost use Rattle.line.specs.Longest.{Typed, NameWithin, NoneLonger};
 ghost use Rattle.line.specs.Pieces.{verbatim, decimal};
 ghost use Rattle.line.specs.Placed.{PutPieces};
@@ -17,7 +17,7 @@ impl Line<'_> {
     // for a line whose name has a name's length.
     pub fn write(&self, out: &mut [u8]) -> usize
         ensures written { WrittenLine self.now out.old out.new result }
-        ensures one { One_text }
+        ensures one { OneText }
         ensures longest { NoneLonger LONGEST_NAME LONGEST_LINE }
         ensures room { NameWithin LONGEST_NAME self.now → LONGEST_LINE ≤ length out.old → 0 < result }
     {
