@@ -5,8 +5,8 @@ use Rattle.models.specs.Expressions.{Exp, empty, atom, seq, alt, star, plus, opt
 use Rattle.models.specs.Folds.{value}
 use Rattle.models.specs.Readers.{Numbered}
 use Rattle.models.specs.Rests.{Rest}
-use Rattle.models.specs.Sets.{Has, singleton, guarded}
-use Rattle.models.proofs.Bits.{has_or, has_or_l, has_or_r, has_none, has_and, and_has, has_single, single_has, has_guarded, guarded_has}
+use Rattle.bits.specs.Sets.{Has, singleton, guarded}
+use Rattle.bits.proofs.Bits.{has_or, has_or_l, has_or_r, has_none, has_and, and_has, has_single, single_has, has_guarded, guarded_has}
 use Rattle.models.proofs.Derivation.{Iff, Derives, derives_by, derives_empty, derives_atom, derives_seq, derives_alt, derives_star, derives_plus, derives_option}
 use Rattle.models.proofs.Joins.{then_nil, then_skip}
 use Rattle.models.proofs.Numbering.{leaves, length_leaves, numbered_append}

@@ -5,11 +5,11 @@ use Rattle.models.specs.Expressions.{Exp, atoms, Words}
 use Rattle.models.specs.Folds.{Codes, value}
 use Rattle.models.specs.Readers.{Numbered, atoms_of, Readers}
 use Rattle.models.specs.Rests.{Rest}
-use Rattle.models.specs.Sets.{Has, guarded}
+use Rattle.bits.specs.Sets.{Has, guarded}
 use Rattle.models.specs.Tables.{Coded, Left, ModelWords, ModelRest, Speaks}
 use Rattle.models.specs.declared.node.Model.{Model}
 use Rattle.models.specs.declared.node.Node.{Node}
-use Rattle.models.proofs.Bits.{has_or, has_or_l, has_or_r, has_none, has_power, has_guarded, guarded_has, some_bit}
+use Rattle.bits.proofs.Bits.{has_or, has_or_l, has_or_r, has_none, has_power, has_guarded, guarded_has, some_bit}
 use Rattle.models.proofs.Derivation.{Iff}
 use Rattle.models.proofs.ModelTables.{coded_one}
 use Rattle.models.proofs.Numbering.{leaves, length_leaves, numbered_in, numbered_one, coded_leaves}

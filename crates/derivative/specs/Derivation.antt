@@ -1,7 +1,7 @@
 -- The algebra of a step: how what is known of an expression comes from what is known of its parts.
 use Rattle.std.specs.Prelude.{ℕ, ◌/◌, ◌%◌, ◌^◌, Bool, true, false, ◌&&◌, ◌||◌, ◌==◌, bit_and, bit_or}
 use Rattle.models.specs.Folds.{Operations}
-use Rattle.models.specs.Sets.{singleton, guarded}
+use Rattle.bits.specs.Sets.{singleton, guarded}
 use Rattle.derivative.specs.declared.derive.Derived.{Derived}
 
 -- Whether a number is in a set.

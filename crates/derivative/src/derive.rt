@@ -2,10 +2,11 @@
 
 ghost use Rattle.derivative.specs.Derivation.{derivation, after_state, ends_in};
 ghost use Rattle.std.specs.Prelude.{◌≡◌, bit_or};
-ghost use Rattle.models.specs.Sets.{guarded};
+ghost use Rattle.bits.specs.Sets.{guarded};
 ghost use Rattle.models.specs.Folds.{Folded};
 
-use models::{Algebra, Node, fold, holds, only, when};
+use bits::{contains, only, when};
+use models::{Algebra, Node, fold};
 
 // What is known of an expression, for a letter and the atoms that may have been read last: whether it
 // has the empty word, whether a word may end there, which atoms may read the letter first, and which
@@ -23,7 +24,7 @@ impl Derived {
     pub fn reached(self, state: u64) -> u64
         ensures { result ≡ after_state state self }
     {
-        when(holds(state, 0), self.first) | self.next
+        when(contains(state, 0), self.first) | self.next
     }
 
     // The atoms that may read the letter next where the whole may be gone through again.
@@ -37,7 +38,7 @@ impl Derived {
     pub fn may_end(self, state: u64) -> bool
         ensures { result ≡ ends_in state self }
     {
-        holds(state, 0) && self.nullable || self.ends
+        contains(state, 0) && self.nullable || self.ends
     }
 }
 
@@ -65,7 +66,7 @@ impl<Atom: Copy> Algebra<Atom> for Derive {
     fn single(&self, number: u8, _atom: Atom) -> Derived {
         Derived {
             nullable: false,
-            ends: holds(self.from, number),
+            ends: contains(self.from, number),
             first: only(number) & self.readers,
             next: 0,
         }

@@ -1,7 +1,7 @@
-pub mod Bits
 pub mod Derivation
 pub mod Folding
 pub mod Joins
+pub mod Members
 pub mod ModelTables
 pub mod Numbering
 pub mod Rests

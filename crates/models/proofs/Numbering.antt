@@ -5,11 +5,11 @@ use lib.Bits.{bit_or}
 use Rattle.models.specs.Expressions.{Exp, empty, atom, seq, alt, star, plus, option, atoms}
 use Rattle.models.specs.Folds.{code}
 use Rattle.models.specs.Readers.{atom_of, atoms_of, Numbered, Sees}
-use Rattle.models.specs.Sets.{Has, singleton}
+use Rattle.bits.specs.Sets.{Has, singleton}
 use Rattle.models.specs.declared.node.Node.{Node}
 use Rattle.models.specs.declared.node.Node.TheVariants as node
 use Rattle.models.specs.declared.reading.Found.{Found}
-use Rattle.models.proofs.Bits.{has_or, has_or_l, has_or_r, has_single, single_has}
+use Rattle.bits.proofs.Bits.{has_or, has_or_l, has_or_r, has_single, single_has}
 use Rattle.models.proofs.Derivation.{Iff}
 
 pub atoms_of_append : {A : Type 0} (xs ys : List (Node A)) → atoms_of (xs ++ ys) ≡ atoms_of xs ++ atoms_of ys

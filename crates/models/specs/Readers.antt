@@ -1,6 +1,6 @@
 -- Which atom of a node table has which number, and which of them read a letter.
 use Rattle.std.specs.Prelude.{◌≡◌, ℕ, ◌+◌, ◌≤◌, min, ◌⊎◌, List, [], ◌∷◌, ◌++◌, length}
-use Rattle.models.specs.Sets.{Has}
+use Rattle.bits.specs.Sets.{Has}
 use Rattle.models.specs.declared.node.Node.{Node}
 use Rattle.models.specs.declared.node.Node.TheVariants as node
 use Rattle.models.specs.declared.reading.Found.{Found}

@@ -6,7 +6,7 @@ ghost use Rattle.models.specs.declared.node.Node.{Node as OneNode};
 
 use super::evaluation::MOST_ATOMS;
 use super::node::Node;
-use super::sets::only;
+use bits::only;
 use engine::Alphabet;
 
 // The atoms met so far, and those among them that read the letter.

@@ -1,7 +1,7 @@
 use Rattle.std.proofs.Common.{◌+◌, [], ◌∷◌, ◌++◌, sym, subst}
 use lib.Bits.{bit_or}
 use Rattle.models.specs.Readers.{Sees}
-use Rattle.models.specs.Sets.{singleton}
+use Rattle.bits.specs.Sets.{singleton}
 use Rattle.models.proofs.Numbering.{no_atom, sees_same, sees_full, sees_reader, sees_other}
 use Rattle.models.proofs.reading.look.Goals as goal
 
