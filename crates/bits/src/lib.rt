@@ -4,7 +4,22 @@
 #![tactic(auto)]
 
 ghost use Rattle.std.specs.Prelude.{◌≡◌, ℕ, ◌<◌, ◌≤◌, true, false, ◌&&◌, ◌||◌, MatchOption, ◌≢◌};
-ghost use Rattle.bits.specs.Sets.{has};
+ghost use Rattle.std.specs.Iterator.{at_most};
+ghost use Rattle.bits.specs.Sets.{has, singleton, guarded, TakesLowest};
+
+// The set of one number; no number from 64 on is in a set.
+pub fn only(place: u8) -> u64
+    ensures { result ≡ singleton place }
+{
+    if place < 64 { 1 << place } else { 0 }
+}
+
+// The set where a test holds, and else the empty one.
+pub fn when(test: bool, set: u64) -> u64
+    ensures { result ≡ guarded test set }
+{
+    if test { set } else { 0 }
+}
 
 // Whether a number lies in the set.
 pub fn contains(set: u64, place: u8) -> bool
@@ -63,9 +78,38 @@ pub fn lowest(set: u64) -> Option<u8>
     }
 }
 
+// The numbers of a set that are still to come, from the lowest on.
+#[derive(Clone, Copy, Debug)]
+pub struct Members {
+    left: u64,
+}
+
+impl Iterator for Members {
+    type Item = u8;
+
+    ghost next_gives = { λ before place after. TakesLowest before.left place after.left };
+
+    ghost remaining = { λ members. at_most members.left };
+
+    fn next(&mut self) -> Option<u8> {
+        let place = lowest(self.left)?;
+        self.left = without(self.left, place);
+        Some(place)
+    }
+}
+
+impl Members {
+    // All numbers of a set.
+    pub fn of(set: u64) -> Members
+        ensures { result.left ≡ set }
+    {
+        Members { left: set }
+    }
+}
+
 #[cfg(test)]
 mod tests {
-    use super::{contains, lowest, meet, union, with, without};
+    use super::{Members, contains, lowest, meet, only, union, when, with, without};
 
     #[test]
     fn few_numbers(rt: HostRuntime) {
@@ -81,5 +125,16 @@ mod tests {
         assert_eq!(rt; lowest(0), None);
         assert_eq!(rt; union(set, 1), 0x8000_0000_0000_0021);
         assert_eq!(rt; meet(set, 0xff), 0x20);
+        assert_eq!(rt; when(contains(set, 5), only(5)), 0x20);
+        assert_eq!(rt; only(64), 0);
+    }
+
+    #[test]
+    fn from_the_lowest_on(rt: HostRuntime) {
+        let mut places = Members::of(0x8000_0000_0000_0021);
+        assert_eq!(rt; places.next(), Some(0));
+        assert_eq!(rt; places.next(), Some(5));
+        assert_eq!(rt; places.next(), Some(63));
+        assert_eq!(rt; places.next(), None);
     }
 }

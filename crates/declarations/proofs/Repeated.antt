@@ -3,8 +3,8 @@ use Rattle.std.proofs.Common.{◌≡◌, ℕ, suc, ◌+◌, ◌<◌, ◌≤◌, 
 use lib.Bits.{bit_or}
 use Rattle.std.proofs.lemmas.Bool.{eqb-false, eq-eqb, ne_eqb, and_parts, false≢true, or_cases}
 use Rattle.engine.specs.Languages.{Decides}
-use Rattle.models.specs.Sets.{Has, singleton}
-use Rattle.models.proofs.Bits.{has_or, has_or_l, has_or_r, has_none, has_single, single_has}
+use Rattle.bits.specs.Sets.{Has, singleton}
+use Rattle.bits.proofs.Bits.{has_or, has_or_l, has_or_r, has_none, has_single, single_has}
 use Rattle.scan.specs.Lists.{same, number_of, listed, all_listed, distinct, names_at}
 use Rattle.scan.specs.Names.{Name}
 use Rattle.scan.specs.declared.entry.Entry.{Entry}

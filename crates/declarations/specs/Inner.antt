@@ -3,7 +3,7 @@ use Rattle.std.specs.Prelude.{◌≡◌, ℕ, ◌+◌, ◌<◌, ◌≤◌, Bool,
 use Rattle.engine.specs.declared.alphabet.ContentAtom.{ContentAtom}
 use Rattle.models.specs.Expressions.{Exp, atoms}
 use Rattle.models.specs.Folds.{code}
-use Rattle.models.specs.Sets.{Has}
+use Rattle.bits.specs.Sets.{Has}
 use Rattle.models.specs.declared.node.Node.{Node}
 use Rattle.models.specs.declared.node.Node.TheVariants as node
 use Rattle.scan.specs.Bytes.{is_initial, first_is}

@@ -16,8 +16,9 @@ ghost use Rattle.scan.specs.Readings.{got, run};
 use super::nesting::{BAR, CLOSING};
 use super::part::{Body, Part};
 use super::steps::{STAR, joined, leaf, write_leaf};
+use bits::{contains, only};
 use engine::ContentAtom;
-use models::{Node, holds, only};
+use models::Node;
 use scan::{Entry, byte_is, put, skip_blanks};
 
 // The numbers of the names so far, as a set, and whether each of them was new when it came.
@@ -31,7 +32,7 @@ struct Seen {
 fn see(seen: Seen, number: u8) -> Seen
     ensures { (names : List Name) (its : List Name) (name : Name) → length names ≤ 63 → number ≡ number_of names name → SeenIs names its seen → SeenIs names (its ++ (name ∷ [])) result }
 {
-    let came = holds(seen.set, number);
+    let came = contains(seen.set, number);
     Seen {
         set: seen.set | only(number),
         distinct: seen.distinct && !came,

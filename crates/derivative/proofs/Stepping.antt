@@ -1,20 +1,23 @@
 -- The states of the engines: the beginning, a step by a letter, and the end of a word.
-use Rattle.std.proofs.Common.{◌≡◌, ℕ, ◌+◌, ◌^◌, ◌<◌, ◌≤◌, Bool, true, false, ◌&&◌, ◌≢◌, ◌⊎◌, List, [], ◌∷◌, Some, sym, refl, ap, ◌∙◌, subst, inl, inr, arith}
+use Rattle.std.proofs.Common.{◌≡◌, ℕ, ◌+◌, ◌^◌, ◌<◌, ◌≤◌, Bool, true, false, not, eqb, ◌&&◌, ◌≢◌, ◌⊎◌, List, [], ◌∷◌, Some, None, Option, sym, refl, ap, ◌∙◌, subst, inl, inr, arith, eq-eqb, ne_eqb}
 use Rattle.engine.specs.Languages.{Empty, Answers, Decides, residue}
 use Rattle.models.specs.Expressions.{Exp, atoms, Words}
-use Rattle.models.specs.Folds.{Codes, value}
+use Rattle.std.specs.Bool.{then_some}
+use Rattle.std.specs.Option.{MatchOption}
+use Rattle.std.proofs.lemmas.Bool.{cases_eq}
+use Rattle.models.specs.Folds.{Codes, Folded, value}
 use Rattle.models.specs.Readers.{Numbered, atoms_of, Readers}
 use Rattle.models.specs.Rests.{Rest}
-use Rattle.models.specs.Sets.{Has, guarded}
-use Rattle.models.specs.Tables.{Coded, Left, ModelWords, ModelRest, Speaks}
+use Rattle.bits.specs.Sets.{has, Has, guarded}
+use Rattle.models.specs.Tables.{Coded, NodesOf, Left, ModelWords, ModelRest, Speaks}
 use Rattle.models.specs.declared.node.Model.{Model}
 use Rattle.models.specs.declared.node.Node.{Node}
-use Rattle.models.proofs.Bits.{has_or, has_or_l, has_or_r, has_none, has_power, has_guarded, guarded_has, some_bit}
+use Rattle.bits.proofs.Bits.{has_or, has_or_l, has_or_r, has_none, has_power, has_guarded, guarded_has, some_bit}
 use Rattle.models.proofs.Derivation.{Iff}
 use Rattle.models.proofs.ModelTables.{coded_one}
 use Rattle.models.proofs.Numbering.{leaves, length_leaves, numbered_in, numbered_one, coded_leaves}
 use Rattle.models.proofs.Rests.{rest_mono, rest_or, rest_some, rest_guard, rest_live, word}
-use Rattle.derivative.specs.Derivation.{member, derivation, after_state, ends_in}
+use Rattle.derivative.specs.Derivation.{derivation, after_state, ends_in}
 use Rattle.derivative.specs.declared.derive.Derived.{Derived}
 use Rattle.derivative.proofs.Knowing.{Knows, Agrees, computed, iff_member, iff_and, iff_or, iff_sum, iff_both, iff_then, nullable_computed, ends_computed}
 
@@ -37,19 +40,19 @@ module _ {A X : Type 0} (stands : A → X → Type 0) where
     pub left_step : (w : List X) → Iff (Left stands e s (x ∷ w)) (Rest (λ n. stands) e 0 (Has (after_state s d)) w)
     left_step w = (
       elim [
-        | inl h ↦ rest_mono (λ n. stands) e 0 (λ n lo hi k. has_or_l (guarded (member s 0) d.first) d.next n (guarded_has (member s 0) d.first n ((iff_member s 0).1 h.0, k))) w ((knows.first_is w).1 h.1)
-        | inr h ↦ rest_mono (λ n. stands) e 0 (λ n lo hi k. has_or_r (guarded (member s 0) d.first) d.next n k) w ((knows.next_is w).1 h)
+        | inl h ↦ rest_mono (λ n. stands) e 0 (λ n lo hi k. has_or_l (guarded (has s 0) d.first) d.next n (guarded_has (has s 0) d.first n ((iff_member s 0).1 h.0, k))) w ((knows.first_is w).1 h.1)
+        | inr h ↦ rest_mono (λ n. stands) e 0 (λ n lo hi k. has_or_r (guarded (has s 0) d.first) d.next n k) w ((knows.next_is w).1 h)
       ],
       λ h.
-          let split = rest_mono (λ n. stands) e 0 {T = λ n. ((member s 0 ≡ true) × Has d.first n) ⊎ Has d.next n} (λ n lo hi k. elim (has_or (guarded (member s 0) d.first) d.next n k) [ inl m ↦ inl (has_guarded (member s 0) d.first n m) | inr m ↦ inr m ]) w h in
-          elim (rest_or (λ n. stands) e 0 (λ n. (member s 0 ≡ true) × Has d.first n) (Has d.next) w split) [
-            | inl k ↦ let m = rest_guard (λ n. stands) e 0 (member s 0 ≡ true) (Has d.first) w k in inl ((iff_member s 0).0 m.0, (knows.first_is w).0 m.1)
+          let split = rest_mono (λ n. stands) e 0 {T = λ n. ((has s 0 ≡ true) × Has d.first n) ⊎ Has d.next n} (λ n lo hi k. elim (has_or (guarded (has s 0) d.first) d.next n k) [ inl m ↦ inl (has_guarded (has s 0) d.first n m) | inr m ↦ inr m ]) w h in
+          elim (rest_or (λ n. stands) e 0 (λ n. (has s 0 ≡ true) × Has d.first n) (Has d.next) w split) [
+            | inl k ↦ let m = rest_guard (λ n. stands) e 0 (has s 0 ≡ true) (Has d.first) w k in inl ((iff_member s 0).0 m.0, (knows.first_is w).0 m.1)
             | inr k ↦ inr ((knows.next_is w).0 k)
           ],
     )
 
     pub reached_in : (n : ℕ) → Has (after_state s d) n → (0 < n) × (n ≤ 0 + atoms e)
-    reached_in n h = elim (has_or (guarded (member s 0) d.first) d.next n h) [ inl k ↦ knows.first_in n (has_guarded (member s 0) d.first n k).1 | inr k ↦ knows.next_in n k ]
+    reached_in n h = elim (has_or (guarded (has s 0) d.first) d.next n h) [ inl k ↦ knows.first_in n (has_guarded (has s 0) d.first n k).1 | inr k ↦ knows.next_in n k ]
 
     -- A state that was reached by a letter is not the beginning.
     pub left_reached : (w : List X) → Iff (Left stands e (after_state s d) w) (Rest (λ n. stands) e 0 (Has (after_state s d)) w)
@@ -58,7 +61,7 @@ module _ {A X : Type 0} (stands : A → X → Type 0) where
   -- Whether the empty word is left.
   pub left_end : (e : Exp A) (s : ℕ) (d : Derived) → Iff (d.nullable ≡ true) (Words stands e []) → Iff (d.ends ≡ true) (Rest (λ n. stands) e 0 (Has s) []) → Iff (ends_in s d ≡ true) (Left stands e s [])
   left_end e s d null last =
-      iff_then (iff_or (member s 0 && d.nullable) d.ends) (iff_sum (iff_then (iff_and (member s 0) d.nullable) (iff_both (iff_member s 0) null)) last)
+      iff_then (iff_or (has s 0 && d.nullable) d.ends) (iff_sum (iff_then (iff_and (has s 0) d.nullable) (iff_both (iff_member s 0) null)) last)
 
 -- From the expression of a number to the languages of the number.
 module _ {A X : Type 0} (stands : A → X → Type 0) (nodes : List (Node A)) (models : List Model) (number : ℕ) (e : Exp A) (coded : Coded nodes models number e) where
@@ -137,6 +140,28 @@ module _ {A X : Type 0} (stands : A → X → Type 0) (nodes : List (Node A)) (m
     pub steps_in : (d : Derived) → d ≡ value (derivation s readers) 0 e → (t : ℕ) → t ≡ after_state s d → (n : ℕ) → Has t n → (0 < n) × (n ≤ 0 + atoms e)
     steps_in d is t reached n h =
         reached_in stands x s readers e (value (derivation s readers) 0 e) knows n (subst (λ u. Has u n) (reached ∙ ap (after_state s) is) h)
+
+-- What is known of the slice of a number's nodes, where they code an expression, answers for the number.
+module _ {A X : Type 0} (stands : A → X → Type 0) (nodes : List (Node A)) (models : List Model) (number : ℕ) (slice : List (Node A)) (of : NodesOf nodes models number slice) where
+  pub ends_found : (s readers : ℕ) (o : Option Derived) → Folded (derivation s readers) 64 slice o → (t : Bool) → MatchOption o (t ≡ false) (λ d. t ≡ ends_in s d) → Decides t (ModelRest stands nodes models number s [])
+  ends_found s readers None none t ended = rw ended (λ h. none h.0 ((of h.0).1 h.1))
+  ends_found s readers (Some d) (e, codes, is) t ended = ends_known stands nodes models number e ((of e).0 codes) s readers d is t ended
+
+  pub opens_found : ((a : A) → (x : X) × stands a x) → (s readers : ℕ) (o : Option Derived) → Folded (derivation s readers) 64 slice o → (r : Option ℕ) → MatchOption o (r ≡ None) (λ d. r ≡ Some 1) → Answers (ModelWords stands nodes models number) (ModelRest stands nodes models number) r
+  opens_found alive s readers None none r opened = rw opened (λ w h. none h.0 ((of h.0).1 h.1))
+  opens_found alive s readers (Some d) (e, codes, is) r opened = rw opened (begin_some stands nodes models number e ((of e).0 codes) alive)
+
+  pub step_found : ((a : A) → (x : X) × stands a x) → (x : X) (s readers : ℕ) → Readers stands slice x readers → (d : Derived) → Folded (derivation s readers) 64 slice (Some d) → (t : ℕ) → t ≡ after_state s d → t < 2 ^ 64 → (r : Option ℕ) → r ≡ then_some (not (eqb t 0)) t → Answers (residue (ModelRest stands nodes models number s) (x ∷ [])) (ModelRest stands nodes models number) r
+  step_found alive x s readers told d (e, codes, is) t reached fits r answered =
+      let coded = (of e).0 codes in
+      let onward = steps stands nodes models number e coded slice x s readers codes told d is t reached in
+      let answers = Answers (residue (ModelRest stands nodes models number s) (x ∷ [])) (ModelRest stands nodes models number) in
+      elim (cases_eq t 0) [
+        | inl none ↦ subst answers (sym (answered ∙ ap (λ b. then_some (not b) t) (eq-eqb t 0 none))) (step_none stands nodes models number e coded x s t onward none)
+        | inr some ↦
+            subst answers (sym (answered ∙ ap (λ b. then_some (not b) t) (ne_eqb t 0 some)))
+            (step_some stands nodes models number e coded alive x s t onward (steps_in stands nodes models number e coded slice x s readers codes told d is t reached) fits some)
+      ]
 
 pub speaks : {A X : Type 0} (stands : A → X → Type 0) (nodes : List (Node A)) (models : List Model) → Speaks stands nodes models (ModelWords stands nodes models)
 speaks stands nodes models = record {

@@ -1,8 +1,9 @@
-pub mod Bits
 pub mod Derivation
 pub mod Folding
 pub mod Joins
+pub mod Members
 pub mod ModelTables
 pub mod Numbering
+pub mod Options
 pub mod Rests
 pub mod Stacks

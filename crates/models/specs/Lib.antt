@@ -3,6 +3,5 @@ pub mod Folds
 pub mod Marks
 pub mod Readers
 pub mod Rests
-pub mod Sets
 pub mod Tables
 pub mod Turns

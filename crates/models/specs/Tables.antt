@@ -4,7 +4,7 @@ use Rattle.engine.specs.Languages.{Language, Empty, Same}
 use Rattle.models.specs.Expressions.{Exp, Words}
 use Rattle.models.specs.Folds.{Codes}
 use Rattle.models.specs.Rests.{Rest}
-use Rattle.models.specs.Sets.{Has}
+use Rattle.bits.specs.Sets.{Has}
 use Rattle.models.specs.declared.node.Model.{Model}
 use Rattle.models.specs.declared.node.Node.{Node}
 

@@ -6,12 +6,11 @@ mod algebra;
 mod evaluation;
 mod node;
 mod reading;
-mod sets;
+mod stack;
 mod tables;
 
 pub use algebra::Algebra;
-pub use evaluation::{clear, fold};
+pub use evaluation::fold;
 pub use node::{Model, Node};
 pub use reading::readers;
-pub use sets::{holds, only, when};
-pub use tables::nodes_of;
+pub use tables::Tables;

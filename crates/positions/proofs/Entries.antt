@@ -9,7 +9,7 @@ use Rattle.derivative.specs.declared.derive.Derived.{Derived}
 use Rattle.models.specs.Expressions.{Exp}
 use Rattle.models.specs.Folds.{value}
 use Rattle.models.specs.Readers.{atoms_of, Numbered}
-use Rattle.models.specs.Sets.{guarded, singleton}
+use Rattle.bits.specs.Sets.{guarded, singleton}
 use Rattle.models.specs.Tables.{Coded}
 use Rattle.models.specs.declared.node.Model.{Model}
 use Rattle.models.specs.declared.node.Node.{Node}

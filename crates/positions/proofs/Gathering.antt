@@ -5,8 +5,8 @@ use native.Mathlib.Decide.{dec_le, ℕ_discrete}
 use lib.Bits.{bit_and, bit_xor, xor_shr, xor_mod, xor_zero_r, xor_add_and}
 use lib.Count.{count_trailing_zeros, under}
 use Rattle.std.proofs.lemmas.Nat.{pow_pos, shr-shr, div_below}
-use Rattle.models.specs.Sets.{Has}
-use Rattle.models.proofs.Bits.{has_below, has_own, has_power, has_none, and_has}
+use Rattle.bits.specs.Sets.{Has}
+use Rattle.bits.proofs.Bits.{has_below, has_own, has_power, has_none, and_has}
 use Rattle.models.proofs.Derivation.{Iff}
 
 digit : (n : ℕ) → (n % 2 ≡ 0) ⊎ (n % 2 ≡ 1)

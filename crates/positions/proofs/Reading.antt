@@ -5,12 +5,12 @@ use Rattle.models.specs.Expressions.{Exp, atoms, Words}
 use Rattle.models.specs.Folds.{code}
 use Rattle.models.specs.Readers.{atoms_of, Numbered}
 use Rattle.models.specs.Rests.{Rest}
-use Rattle.models.specs.Sets.{Has, singleton, guarded}
+use Rattle.bits.specs.Sets.{Has, singleton, guarded}
 use Rattle.models.specs.Tables.{Coded, Left, ModelWords, ModelRest}
 use Rattle.models.specs.declared.node.Model.{Model}
 use Rattle.models.specs.declared.node.Node.{Node}
 use Rattle.models.specs.declared.node.Node.TheVariants as node
-use Rattle.models.proofs.Bits.{has_or, has_or_l, has_or_r, has_none, has_power, has_guarded, guarded_has, has_small, single_has, some_bit}
+use Rattle.bits.proofs.Bits.{has_or, has_or_l, has_or_r, has_none, has_power, has_guarded, guarded_has, has_small, single_has, some_bit}
 use Rattle.models.proofs.Derivation.{Iff}
 use Rattle.models.proofs.ModelTables.{coded_or_not}
 use Rattle.models.proofs.Numbering.{leaves, length_leaves, numbered_in, numbered_one, numbered_some, coded_leaves}

@@ -3,12 +3,12 @@ use Rattle.std.proofs.Common.{◌≡◌, ℕ, suc, ◌+◌, ◌*◌, ◌/◌, �
 use native.Mathlib.Decide.{dec_le}
 use lib.Bits.{bit_and, bit_or}
 use Rattle.engine.specs.Languages.{Decides, Same}
-use Rattle.models.specs.Sets.{Has, guarded, singleton}
+use Rattle.bits.specs.Sets.{Has, guarded, singleton}
 use Rattle.models.specs.Tables.{ModelWords, ModelRest, Speaks}
 use Rattle.models.specs.declared.node.Model.{Model}
 use Rattle.models.specs.declared.node.Node.{Node}
 use Rattle.models.specs.declared.node.Node.TheVariants as node
-use Rattle.models.proofs.Bits.{has_or, has_or_l, has_or_r, has_and, and_has, has_guarded, guarded_has, has_single, single_has, has_small, has_none}
+use Rattle.bits.proofs.Bits.{has_or, has_or_l, has_or_r, has_and, and_has, has_guarded, guarded_has, has_single, single_has, has_small, has_none}
 use Rattle.derivative.proofs.Stepping.{speaks}
 use Rattle.positions.specs.Columns.{Sorts, Sorted, Columns, Complete}
 use Rattle.positions.specs.Walks.{Kept}

@@ -7,8 +7,8 @@ use Rattle.std.proofs.lemmas.Nat.{pow_below}
 use Rattle.models.specs.Expressions.{Exp, empty, atom, seq, alt, star, plus, option, atoms}
 use Rattle.models.specs.Folds.{value}
 use Rattle.models.specs.Readers.{Numbered}
-use Rattle.models.specs.Sets.{Has, singleton, guarded}
-use Rattle.models.proofs.Bits.{has_none, has_and, and_has, has_own, has_single, single_has}
+use Rattle.bits.specs.Sets.{Has, singleton, guarded}
+use Rattle.bits.proofs.Bits.{has_none, has_and, and_has, has_own, has_single, single_has}
 use Rattle.models.proofs.Derivation.{Iff, Derives, derives_by, derives_empty, derives_atom, derives_seq, derives_alt, derives_star, derives_plus, derives_option}
 use Rattle.models.proofs.Numbering.{leaves, length_leaves, numbered_append}
 use Rattle.derivative.specs.Derivation.{derivation}

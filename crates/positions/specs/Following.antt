@@ -5,7 +5,7 @@ use Rattle.models.specs.Expressions.{Exp}
 use Rattle.models.specs.Folds.{code, value}
 use Rattle.models.specs.Readers.{atoms_of, Numbered}
 use Rattle.models.specs.Marks.{Follows, EndsAfter}
-use Rattle.models.specs.Sets.{Has, guarded, singleton}
+use Rattle.bits.specs.Sets.{Has, guarded, singleton}
 use Rattle.models.specs.Tables.{Coded}
 use Rattle.models.specs.declared.node.Model.{Model}
 use Rattle.models.specs.declared.node.Node.{Node}

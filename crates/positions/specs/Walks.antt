@@ -1,6 +1,6 @@
 -- What a walk over the numbers in a set gathers.
 use Rattle.std.specs.Prelude.{◌≡◌, ℕ, ◌+◌, ◌-◌, ◌*◌, ◌^◌, ◌<◌, ◌≤◌, ◌⊎◌, List, length, Some, None, Option, bit_xor, slice_index, slice_index_or}
-use Rattle.models.specs.Sets.{Has}
+use Rattle.bits.specs.Sets.{Has}
 use Rattle.models.specs.declared.node.Model.{Model}
 use Rattle.models.specs.declared.node.Node.{Node}
 use Rattle.models.specs.declared.node.Node.TheVariants as node

@@ -6,7 +6,8 @@ ghost use Rattle.models.specs.declared.node.Node.TheVariants.{Unused};
 ghost use Rattle.positions.specs.Columns.{Columns, Sorted, Sorts};
 
 use super::buckets::Bucketed;
-use models::{Node, only, when};
+use bits::{only, when};
+use models::Node;
 
 // The node at a place, or an unused one past the end.
 fn node_at<Atom: Copy>(nodes: &[Node<Atom>], place: usize) -> Node<Atom>

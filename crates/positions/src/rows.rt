@@ -4,8 +4,9 @@ ghost use Rattle.std.specs.Prelude.{ℕ, ◌<◌, length};
 ghost use Rattle.models.specs.declared.node.Node.TheVariants.{Unused};
 ghost use Rattle.positions.specs.Following.{AtomAt, Atoms, RowAt, Rows};
 
+use bits::{only, when};
 use derivative::known;
-use models::{Model, Node, nodes_of, only, when};
+use models::{Model, Node, nodes_of};
 
 // The row at a place: what may be read right after atom `place % 64` of number `place / 64 + 1`.
 fn row_at<Atom: Copy>(nodes: &[Node<Atom>], models: &[Model], place: usize) -> u64

@@ -2,11 +2,12 @@
 
 ghost use Rattle.std.specs.Prelude.{ℕ, ◌+◌, ◌≤◌, length};
 ghost use Rattle.engine.specs.Languages.{Decides};
-ghost use Rattle.models.specs.Sets.{Has};
+ghost use Rattle.bits.specs.Sets.{Has};
 ghost use Rattle.positions.specs.Walks.{Kept, Lowest, Reads, Union};
 
+use bits::only;
 use engine::Alphabet;
-use models::{Node, only};
+use models::Node;
 
 // The lowest number in a set, and the set without it; none of an empty set.
 pub fn split_lowest(set: u64) -> Option<(u8, u64)>

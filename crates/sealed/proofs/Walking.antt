@@ -15,9 +15,9 @@ use Rattle.models.specs.Folds.{Codes, value}
 use Rattle.models.specs.Marks.{Ambiguous}
 use Rattle.models.specs.Readers.{Readers}
 use Rattle.models.specs.Rests.{Rest}
-use Rattle.models.specs.Sets.{Has, singleton}
+use Rattle.bits.specs.Sets.{Has, singleton}
 use Rattle.models.specs.declared.node.Node.{Node}
-use Rattle.models.proofs.Bits.{has_none, has_single, single_has}
+use Rattle.bits.proofs.Bits.{has_none, has_single, single_has}
 use Rattle.models.proofs.Folding.{codes_one}
 use Rattle.models.proofs.Numbering.{leaves}
 use Rattle.models.proofs.Rests.{rest_mono, rest_some}

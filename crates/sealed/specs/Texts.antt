@@ -10,7 +10,7 @@ use Rattle.engine.specs.declared.alphabet.Letter.TheVariants as letter
 use Rattle.models.specs.Expressions.{Exp, Words}
 use Rattle.models.specs.Folds.{Codes}
 use Rattle.models.specs.Marks.{Ambiguous}
-use Rattle.models.specs.Sets.{singleton}
+use Rattle.bits.specs.Sets.{singleton}
 use Rattle.models.specs.Tables.{Left}
 use Rattle.models.specs.declared.node.Node.{Node}
 

@@ -7,10 +7,10 @@ ghost use Rattle.sealed.specs.AtNodes.{AtNode};
 ghost use Rattle.sealed.specs.Texts.{AllTexts, TextAfter, TextOnly};
 ghost use Rattle.sealing.specs.Forks.{AmbiguousIn};
 
-use bits::{contains, lowest, with};
+use bits::{contains, lowest, only, with};
 use derivative::known;
 use engine::{ContentAtom, Letter};
-use models::{Node, only, readers};
+use models::{Node, readers};
 
 // Whether a node's atom, if it has one, stands for text alone.
 fn is_text(node: Node<ContentAtom>) -> bool

@@ -14,7 +14,7 @@ use Rattle.models.specs.Expressions.{Exp}
 use Rattle.models.specs.Folds.{Codes, value}
 use Rattle.models.specs.Marks.{Mark}
 use Rattle.models.specs.Readers.{Numbered, Readers, atom_of, atoms_of}
-use Rattle.models.specs.Sets.{Has, singleton}
+use Rattle.bits.specs.Sets.{Has, singleton}
 use Rattle.models.specs.Tables.{NodesOf}
 use Rattle.models.specs.declared.node.Model.{Model}
 use Rattle.models.specs.declared.node.Node.{Node}

@@ -5,10 +5,10 @@ ghost use Rattle.engine.specs.Atoms.{content_sample};
 ghost use Rattle.engine.specs.Languages.{Decides};
 ghost use Rattle.sealing.specs.Forks.{AmbiguousIn, ForksBy, ForksIn, Several};
 
-use bits::{lowest, without};
+use bits::{lowest, only, without};
 use derivative::known;
 use engine::{ContentAtom, Letter};
-use models::{Node, only, readers};
+use models::{Node, readers};
 
 // Whether a set has two members.
 fn several(set: u64) -> bool

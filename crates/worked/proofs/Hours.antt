@@ -12,7 +12,7 @@ use Rattle.engine.specs.declared.range.ByteRange.{ByteRange}
 use Rattle.models.specs.Expressions.{seq, alt, option, done, Words}
 use Rattle.models.specs.Folds.{value}
 use Rattle.models.specs.Marks.{Ambiguous}
-use Rattle.models.specs.Sets.{Has}
+use Rattle.bits.specs.Sets.{Has}
 use Rattle.models.proofs.Numbering.{leaves}
 use Rattle.derivative.specs.Derivation.{derivation}
 use Rattle.derivative.proofs.Knowing.{Agrees, computed, ends_computed}

@@ -1,7 +1,7 @@
 use Rattle.std.proofs.Common.{◌≡◌, ◌+◌, ◌*◌, ◌/◌, ◌%◌, ◌<◌, sym, ap, ◌∙◌, subst, arith}
 use lib.Bits.{bit_or}
 use Rattle.engine.specs.Languages.{Decides}
-use Rattle.models.specs.Sets.{guarded, singleton}
+use Rattle.bits.specs.Sets.{guarded, singleton}
 use Rattle.positions.specs.Columns.{Sorted, Sorts}
 use Rattle.positions.proofs.Sorting.{sorted_more}
 use Rattle.positions.proofs.columns.column_at.Goals as goal

@@ -1,10 +1,10 @@
 use Rattle.std.proofs.Common.{◌≡◌, ◌+◌, ◌<◌, length, get_or, sym, subst, inl, inr, arith}
 use lib.Bits.{bit_or}
 use Rattle.std.proofs.lemmas.List.{get_or_read}
-use Rattle.models.specs.Sets.{Has, singleton}
+use Rattle.bits.specs.Sets.{Has, singleton}
 use Rattle.models.specs.declared.node.Node.TheVariants as node
 use Rattle.positions.specs.Walks.{Reads}
-use Rattle.models.proofs.Bits.{has_or, has_or_l, has_or_r, has_single, single_has}
+use Rattle.bits.proofs.Bits.{has_or, has_or_l, has_or_r, has_single, single_has}
 use Rattle.positions.proofs.Gathering.{Gathered, gathered_more}
 use Rattle.positions.proofs.walks.reading.Goals as goal
 

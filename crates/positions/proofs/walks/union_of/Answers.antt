@@ -1,7 +1,7 @@
 use Rattle.std.proofs.Common.{◌+◌, get_or, sym, subst, inl, inr}
 use lib.Bits.{bit_or}
-use Rattle.models.specs.Sets.{Has}
-use Rattle.models.proofs.Bits.{has_or, has_or_l, has_or_r}
+use Rattle.bits.specs.Sets.{Has}
+use Rattle.bits.proofs.Bits.{has_or, has_or_l, has_or_r}
 use Rattle.positions.proofs.Gathering.{Gathered, gathered_more, gathered_all}
 use Rattle.positions.proofs.walks.union_of.Goals as goal
 

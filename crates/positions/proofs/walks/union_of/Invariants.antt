@@ -1,5 +1,5 @@
 use Rattle.std.proofs.Common.{◌+◌, get_or}
-use Rattle.models.specs.Sets.{Has}
+use Rattle.bits.specs.Sets.{Has}
 use Rattle.positions.proofs.Gathering.{Gathered}
 use Rattle.positions.proofs.walks.union_of.Given as goal
 

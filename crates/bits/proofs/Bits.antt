@@ -4,7 +4,7 @@ use native.Mathlib.Decide.{dec_le}
 use native.Mathlib.Nat.{zero-div, div-eq_of_lt}
 use lib.Bits.{bit_and, bit_or, or_shr, and_shr, or_mod, and_mod, or_zero_l, and_zero_l, and_zero_r}
 use Rattle.std.proofs.lemmas.Nat.{pow-add, shl-shr, shr-shr, pow_below, div_below}
-use Rattle.models.specs.Sets.{Has, singleton, guarded}
+use Rattle.bits.specs.Sets.{Has, singleton, guarded}
 
 digit : (n : ℕ) → (n % 2 ≡ 0) ⊎ (n % 2 ≡ 1)
 digit n = elim (dec_le (n % 2) 0) [ yes h ↦ inl (omega arith) | no h ↦ inr (omega arith) ]
