@@ -1,5 +1,5 @@
 -- The entries of the tables, one by one.
-use Rattle.std.proofs.Common.{◌≡◌, ℕ, suc, ◌+◌, ◌*◌, ◌/◌, ◌<◌, ◌≤◌, Bool, ◌⊎◌, List, [], ◌∷◌, ◌++◌, length, get_or, take, drop, sym, refl, ap, ◌∙◌, subst, inl, inr, arith, length-append, take-append-drop}
+use Rattle.std.proofs.Common.{◌≡◌, ℕ, suc, ◌+◌, ◌*◌, ◌/◌, ◌<◌, ◌≤◌, Bool, ◌≢◌, ◌⊎◌, List, [], ◌∷◌, ◌++◌, length, get_or, set, take, drop, sym, refl, ap, ◌∙◌, subst, inl, inr, arith, below_more, get_or-set_other, get_or-set_same, length-append, take-append-drop}
 use native.Mathlib.Decide.{dec_le}
 use lib.Bits.{bit_or}
 use lib.ListN.{get_or-eq_default}
@@ -16,6 +16,13 @@ use Rattle.models.specs.declared.node.Node.{Node}
 use Rattle.models.specs.declared.node.Node.TheVariants as node
 use Rattle.models.proofs.Numbering.{atoms_of_append, numbered_append, numbered_in, numbered_one, no_atom}
 use Rattle.positions.specs.Following.{everything, row, AtomAt, Rows, Atoms, Followed, Blank, Placed, Spare}
+
+-- One place more is written.
+pub written_more : {A : Type 0} (P : ℕ → A → Type 0) (d : A) (xs : List A) (i : ℕ) (x : A) → i < length xs → ((k : ℕ) → k < i → P k (get_or xs k d)) → P i x → (k : ℕ) → k < i + 1 → P k (get_or (set xs i x) k d)
+written_more P d xs i x lt before here =
+    below_more _ _
+    (λ k h. let ne : k ≢ i = omega arith in subst (P k) (sym (get_or-set_other xs i k x d ne)) (before k h))
+    (subst (P i) (sym (get_or-set_same xs i x d lt)) here)
 
 -- A row from what was computed for it.
 pub row_made : {A : Type 0} (e : Exp A) (p from : ℕ) (d : Derived) (reached : ℕ) (t : Bool) (w : ℕ) → from ≡ singleton p → d ≡ value (derivation from everything) 0 e → reached ≡ after_state from d → t ≡ ends_in from d → w ≡ guarded t 1 → bit_or reached w ≡ row e p

@@ -1,5 +1,5 @@
 -- Reading the follow table: its rows and atoms give the words that go on with a letter, and those that end.
-use Rattle.std.proofs.Common.{◌≡◌, ℕ, zero, suc, ◌+◌, ◌-◌, ◌*◌, ◌/◌, ◌%◌, ◌^◌, ◌<◌, ◌≤◌, Bool, true, false, ◌&&◌, eqb, ◌≢◌, ◌⊎◌, List, [], ◌∷◌, get_or, Some, sym, refl, ap, ◌∙◌, subst, inl, inr, add-zero, div-one, arith, eq-eqb, eqb-true}
+use Rattle.std.proofs.Common.{◌≡◌, ℕ, zero, suc, ◌+◌, ◌-◌, ◌*◌, ◌/◌, ◌%◌, ◌^◌, ◌<◌, ◌≤◌, Bool, true, false, ◌&&◌, eqb, ◌≢◌, ◌⊎◌, List, [], ◌∷◌, get_or, Some, None, Option, MatchOption, sym, refl, ap, ◌∙◌, subst, inl, inr, add-zero, div-one, arith, eq-eqb, eqb-true}
 use Rattle.engine.specs.Languages.{Empty, Answers, Decides, residue}
 use Rattle.models.specs.Expressions.{Exp, atoms, Words}
 use Rattle.models.specs.Folds.{code}
@@ -260,3 +260,9 @@ module _ {A X : Type 0} (stands : A → X → Type 0) (nodes : List (Node A)) (m
                 small some
             | inr never ↦ let (n, h) = some_bit 64 k small some in absurd (no_union never s u n fits union ((kept n).0 h).0)
           ]
+
+      -- What a step answers: the atoms kept, where there are any.
+      pub step_answer : k < 2 ^ 64 → (r : Option ℕ) → MatchOption r (k ≡ 0) (λ n. (n ≡ k) × (k ≢ 0)) → Answers (residue (ModelRest stands nodes models number s) (x ∷ [])) (ModelRest stands nodes models number) r
+      step_answer small None none = step_nothing none
+      step_answer small (Some n) some =
+          subst (λ m. Answers (residue (ModelRest stands nodes models number s) (x ∷ [])) (ModelRest stands nodes models number) (Some m)) (sym some.0) (step_something small some.1)

@@ -1,5 +1,5 @@
 -- Follow sets as rows of a table.
-use Rattle.std.specs.Prelude.{◌≡◌, ℕ, ◌+◌, ◌-◌, ◌*◌, ◌/◌, ◌%◌, ◌^◌, ◌<◌, ◌≤◌, List, length, bit_or, slice_index, slice_index_or}
+use Rattle.std.specs.Prelude.{◌≡◌, ℕ, ◌+◌, ◌-◌, ◌*◌, ◌/◌, ◌%◌, ◌^◌, ◌<◌, ◌≤◌, List, [], length, replicate, bit_or, slice_index, slice_index_or}
 use Rattle.derivative.specs.Derivation.{derivation, after_state, ends_in}
 use Rattle.models.specs.Expressions.{Exp}
 use Rattle.models.specs.Folds.{code, value}
@@ -46,6 +46,18 @@ Atoms nodes models atoms = (i : ℕ) → i < length atoms → NodeAt nodes model
 -- There are 64 places for each element.
 abbrev pub HasRoom : {A : Type 0} → ℕ → List ℕ → List (Node A) → Type 0
 HasRoom elements rows atoms = (64 * elements ≤ length rows) × (64 * elements ≤ length atoms)
+
+-- There are as many places as before.
+abbrev pub SamePlaces : {A : Type 0} → List ℕ → List (Node A) → List ℕ → List (Node A) → Type 0
+SamePlaces rows atoms rows' atoms' = (length rows' ≡ length rows) × (length atoms' ≡ length atoms)
+
+-- Every place is left zero.
+abbrev pub Zeroed : {A : Type 0} → List ℕ → List (Node A) → List ℕ → List (Node A) → Type 0
+Zeroed rows atoms rows' atoms' = (rows' ≡ replicate (length rows) 0) × (atoms' ≡ replicate (length atoms) node.Unused)
+
+-- The places passed over to a table, so that none is left here.
+abbrev pub PassedOn : {A : Type 0} → List ℕ → List (Node A) → Type 0
+PassedOn rows atoms = (rows ≡ []) × (atoms ≡ [])
 
 -- The rows of every number that has an expression, 64 places to a number.
 abbrev pub Followed : {A : Type 0} → List (Node A) → List Model → List ℕ → Type 0

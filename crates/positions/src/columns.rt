@@ -13,11 +13,7 @@ use models::Node;
 fn node_at<Atom: Copy>(nodes: &[Node<Atom>], place: usize) -> Node<Atom>
     ensures { result ≡ slice_index_or nodes.now place Unused }
 {
-    if place < nodes.len() {
-        nodes[place]
-    } else {
-        Node::Unused
-    }
+    nodes.get(place).copied().unwrap_or(Node::Unused)
 }
 
 // Whether a node is an atom that stands for some letter of the bucket.
@@ -48,7 +44,7 @@ fn column_at<L: Bucketed>(atoms: &[Node<L::Atom>], place: usize) -> u64
 pub fn write_columns<L: Bucketed>(atoms: &[Node<L::Atom>], columns: &mut [u64])
     ensures { Columns L.Alphabet.stands L.Bucketed.falls atoms.now columns.new }
 {
-    for i in 0..columns.len() {
-        columns[i] = column_at::<L>(atoms, i);
+    for (place, column) in columns.iter_mut().enumerate() {
+        *column = column_at::<L>(atoms, place);
     }
 }

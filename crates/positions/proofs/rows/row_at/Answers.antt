@@ -6,8 +6,8 @@ use Rattle.positions.proofs.rows.row_at.Goals as goal
 
 pub returns-in-Some : goal.returns-in-Some
 returns-in-Some g c =
-    let nodes = c.args.nodes.now in
-    let models = c.args.models.now in
+    let nodes = c.args.tables.nodes.now in
+    let models = c.args.tables.models.now in
     let i = c.args.place in
     let got = c.in-Some.ensures in
     let coded = (c.nodes_of.ensures got.0).0 got.1 in

@@ -8,7 +8,7 @@ returns-then-self-base-eq0 g c =
     let based = c.in_ok-base.ensures in
     record {
       answer =
-          open_none g.L.Alphabet.stands self.nodes.now self.models.now self.rows.now c.args.number c.in_ok-base.base based.0 based.2 self.followed self.blank
+          open_none g.L.Alphabet.stands self.tables.nodes.now self.tables.models.now self.rows.now c.args.number c.in_ok-base.base based.0 based.2 self.followed self.blank
           (λ a. (g.L.Alphabet.sample a, g.met.L.Alphabet.sampled a)) c.if-self-base-eq0.true;
       real = λ w h. in_each (λ k. g.L.Alphabet.stands) g.L.Alphabet.real (λ k a x r. g.met.L.Alphabet.stands_for_real a x r) h.0 0 w h.2;
     }
@@ -19,7 +19,7 @@ returns-else-self-base-eq0 g c =
     let based = c.in_ok-base.ensures in
     record {
       answer =
-          open_some g.L.Alphabet.stands self.nodes.now self.models.now self.rows.now c.args.number c.in_ok-base.base based.0 based.2 self.followed self.blank
+          open_some g.L.Alphabet.stands self.tables.nodes.now self.tables.models.now self.rows.now c.args.number c.in_ok-base.base based.0 based.2 self.followed self.blank
           (λ a. (g.L.Alphabet.sample a, g.met.L.Alphabet.sampled a)) c.if-self-base-eq0.false;
       real = λ w h. in_each (λ k. g.L.Alphabet.stands) g.L.Alphabet.real (λ k a x r. g.met.L.Alphabet.stands_for_real a x r) h.0 0 w h.2;
     }
