@@ -14,4 +14,3 @@ pub use rows::atom_of;
 pub use table::{
     BlankColumnTable, BlankTable, ColumnTable, ContentTable, FollowTable, FormTable, TooFewPlaces,
 };
-pub use walks::split_lowest;
