@@ -1,5 +1,5 @@
 -- A walk that takes each number out of a set gathers what every number of the set gives.
-use Rattle.std.proofs.Common.{◌≡◌, ℕ, ◌<◌, true, false, ◌⊎◌, None, Some, sym, refl, ◌∙◌, subst, inl, inr, eq-eqb, eqb-true, arith}
+use Rattle.std.proofs.Common.{◌≡◌, ℕ, true, ◌⊎◌, None, Some, sym, refl, ◌∙◌, subst, inl, inr, eq-eqb, eqb-true}
 use native.Mathlib.Decide.{ℕ_discrete}
 use borrow.Author.Tests.{both_ways}
 use Rattle.bits.specs.Sets.{Has, has, TakesLowest}

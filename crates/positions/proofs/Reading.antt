@@ -1,5 +1,7 @@
 -- Reading the follow table: its rows and atoms give the words that go on with a letter, and those that end.
-use Rattle.std.proofs.Common.{◌≡◌, ℕ, zero, suc, ◌+◌, ◌-◌, ◌*◌, ◌/◌, ◌%◌, ◌^◌, ◌<◌, ◌≤◌, Bool, true, false, ◌&&◌, eqb, ◌≢◌, ◌⊎◌, List, [], ◌∷◌, get_or, Some, None, Option, MatchOption, sym, refl, ap, ◌∙◌, subst, inl, inr, add-zero, div-one, arith, eq-eqb, eqb-true}
+use Rattle.std.proofs.Common.{◌≡◌, ℕ, zero, suc, ◌+◌, ◌-◌, ◌*◌, ◌/◌, ◌%◌, ◌^◌, ◌<◌, ◌≤◌, Bool, true, false, ◌&&◌, eqb, ◌≢◌, ◌⊎◌, List, [], ◌∷◌, get_or, Some, Option, not, sym, refl, ap, ◌∙◌, subst, inl, inr, add-zero, div-one, arith, eq-eqb, eqb-true}
+use borrow.Author.Tests.{eqb-false}
+use Rattle.std.specs.Bool.{then_some}
 use Rattle.engine.specs.Languages.{Empty, Answers, Decides, residue}
 use Rattle.models.specs.Expressions.{Exp, atoms, Words}
 use Rattle.models.specs.Folds.{code}
@@ -235,22 +237,30 @@ module _ {A X : Type 0} (stands : A → X → Type 0) (nodes : List (Node A)) (m
       undecided false not_so never = λ h. never h.0 h.1
 
   module _ (alive : (a : A) → (x : X) × stands a x) where
-    pub open_none : get_or rows base 0 ≡ 0 → Empty (ModelWords stands nodes models number)
+    open_none : get_or rows base 0 ≡ 0 → Empty (ModelWords stands nodes models number)
     open_none none w h = begins stands nodes models rows [] number base from_one starts h.0 h.1 followed alive none
 
-    pub open_some : get_or rows base 0 ≢ 0 → Answers (ModelWords stands nodes models number) (ModelRest stands nodes models number) (Some 1)
+    open_some : get_or rows base 0 ≢ 0 → Answers (ModelWords stands nodes models number) (ModelRest stands nodes models number) (Some 1)
     open_some some =
         elim (coded_or_not nodes models number) [
           | inl (e, c) ↦ begin_some stands nodes models number e c alive
           | inr never ↦ absurd (some (ap (λ i. get_or rows i 0) (sym (add-zero base)) ∙ zero_row never 0 (omega arith)))
         ]
 
+    -- The engine opens where the row of the beginning is not empty.
+    pub open_answer : (r : Option ℕ) → r ≡ then_some (not (eqb (get_or rows base 0) 0)) 1 → Answers (ModelWords stands nodes models number) (ModelRest stands nodes models number) r
+    open_answer r is = subst (Answers (ModelWords stands nodes models number) (ModelRest stands nodes models number)) (sym is) (told (eqb (get_or rows base 0) 0) refl)
+      where
+        told : (t : Bool) → eqb (get_or rows base 0) 0 ≡ t → Answers (ModelWords stands nodes models number) (ModelRest stands nodes models number) (then_some (not t) 1)
+        told true e = open_none (eqb-true (get_or rows base 0) 0 e)
+        told false e = open_some (eqb-false (get_or rows base 0) 0 e)
+
     module _ (places : List (Node A)) (placed : Placed nodes models places) (spare : Spare nodes models places) (x : X) (s u k : ℕ) (fits : s < 2 ^ 64) (union : Union rows base s u) (kept : Kept stands places base x u k) where
-      pub step_nothing : k ≡ 0 → Empty (residue (ModelRest stands nodes models number s) (x ∷ []))
+      step_nothing : k ≡ 0 → Empty (residue (ModelRest stands nodes models number s) (x ∷ []))
       step_nothing none w h =
           step_none stands nodes models number h.0 h.1 x s k (step_told stands nodes models rows places number base from_one starts h.0 h.1 followed placed spare x s u k fits union kept) none w h
 
-      pub step_something : k < 2 ^ 64 → k ≢ 0 → Answers (residue (ModelRest stands nodes models number s) (x ∷ [])) (ModelRest stands nodes models number) (Some k)
+      step_something : k < 2 ^ 64 → k ≢ 0 → Answers (residue (ModelRest stands nodes models number s) (x ∷ [])) (ModelRest stands nodes models number) (Some k)
       step_something small some =
           elim (coded_or_not nodes models number) [
             | inl (e, c) ↦
@@ -261,8 +271,10 @@ module _ {A X : Type 0} (stands : A → X → Type 0) (nodes : List (Node A)) (m
             | inr never ↦ let (n, h) = some_bit 64 k small some in absurd (no_union never s u n fits union ((kept n).0 h).0)
           ]
 
-      -- What a step answers: the atoms kept, where there are any.
-      pub step_answer : k < 2 ^ 64 → (r : Option ℕ) → MatchOption r (k ≡ 0) (λ n. (n ≡ k) × (k ≢ 0)) → Answers (residue (ModelRest stands nodes models number s) (x ∷ [])) (ModelRest stands nodes models number) r
-      step_answer small None none = step_nothing none
-      step_answer small (Some n) some =
-          subst (λ m. Answers (residue (ModelRest stands nodes models number s) (x ∷ [])) (ModelRest stands nodes models number) (Some m)) (sym some.0) (step_something small some.1)
+      -- A step answers the atoms kept, where there are any.
+      pub step_answer : k < 2 ^ 64 → (r : Option ℕ) → r ≡ then_some (not (eqb k 0)) k → Answers (residue (ModelRest stands nodes models number s) (x ∷ [])) (ModelRest stands nodes models number) r
+      step_answer small r is = subst (Answers (residue (ModelRest stands nodes models number s) (x ∷ [])) (ModelRest stands nodes models number)) (sym is) (told (eqb k 0) refl)
+        where
+          told : (t : Bool) → eqb k 0 ≡ t → Answers (residue (ModelRest stands nodes models number s) (x ∷ [])) (ModelRest stands nodes models number) (then_some (not t) k)
+          told true e = step_nothing (eqb-true k 0 e)
+          told false e = step_something small (eqb-false k 0 e)

@@ -6,7 +6,7 @@ ghost use Rattle.models.specs.declared.node.Node.TheVariants.{Unused};
 ghost use Rattle.positions.specs.Columns.{Columns, Sorted, Sorts};
 
 use super::buckets::Bucketed;
-use bits::{only, when};
+use bits::only;
 use models::Node;
 
 // The node at a place, or an unused one past the end.
@@ -34,8 +34,9 @@ fn column_at<L: Bucketed>(atoms: &[Node<L::Atom>], place: usize) -> u64
     let bucket = (place % 64) as u8;
     let mut found = 0;
     for number in 0..64 {
-        let sorted = sorts::<L>(node_at(atoms, base + number as usize), bucket);
-        found |= when(sorted, only(number));
+        if sorts::<L>(node_at(atoms, base + number as usize), bucket) {
+            found |= only(number);
+        }
     }
     found
 }

@@ -9,7 +9,7 @@ ghost use Rattle.positions.specs.Columns.{Complete};
 use super::super::buckets::Bucketed;
 use super::super::walks::{reading, union_of};
 use super::FollowTable;
-use super::positions::{base_of, non_empty};
+use super::positions::base_of;
 use engine::{Engine, Letter};
 pub use filling::BlankColumnTable;
 
@@ -44,8 +44,9 @@ impl<L: Bucketed> Engine for ColumnTable<'_, '_, '_, '_, '_, L> {
     fn step(&self, number: u8, state: u64, letter: L) -> Option<u64> {
         let base = base_of(self.table.tables.models, number)?;
         let column = self.columns[base + letter.bucket() as usize];
-        let next = union_of(self.table.rows, base, state) & column;
-        non_empty(reading(self.table.atoms, base, next, letter))
+        let after = union_of(self.table.rows, base, state) & column;
+        let next = reading(self.table.atoms, base, after, letter);
+        (next != 0).then_some(next)
     }
 
     fn ends(&self, number: u8, state: u64) -> bool {

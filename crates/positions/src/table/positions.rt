@@ -1,6 +1,6 @@
 // The position engine: states are sets of atoms, and a step reads their rows.
 
-ghost use Rattle.std.specs.Prelude.{◌≡◌, ◌≢◌, ◌-◌, ◌*◌, ◌<◌, ◌≤◌, MatchOption};
+ghost use Rattle.std.specs.Prelude.{◌-◌, ◌*◌, ◌<◌, ◌≤◌};
 ghost use Rattle.models.specs.Tables.{ModelWords, ModelRest};
 ghost use Rattle.positions.specs.Walks.{Based};
 
@@ -16,18 +16,8 @@ const BEGINNING: u64 = 1;
 pub(crate) fn base_of(models: &[Model], number: u8) -> Option<usize>
     ensures { Based models.now number result }
 {
-    let number = number as usize;
-    if number < 1 || number > models.len() {
-        return None;
-    }
-    Some(64 * (number - 1))
-}
-
-// A set as a state: the empty set is none.
-pub(crate) fn non_empty(set: u64) -> Option<u64>
-    ensures { MatchOption result (set ≡ 0) (λ state. (state ≡ set) × (set ≢ 0)) }
-{
-    if set == 0 { None } else { Some(set) }
+    let place = (number as usize).checked_sub(1)?;
+    (place < models.len()).then_some(64 * place)
 }
 
 impl<L: Alphabet> Engine for FollowTable<'_, '_, '_, '_, L> {
@@ -39,17 +29,14 @@ impl<L: Alphabet> Engine for FollowTable<'_, '_, '_, '_, L> {
 
     fn open(&self, number: u8) -> Option<u64> {
         let base = base_of(self.tables.models, number)?;
-        if self.rows[base] == 0 {
-            None
-        } else {
-            Some(BEGINNING)
-        }
+        (self.rows[base] != 0).then_some(BEGINNING)
     }
 
     fn step(&self, number: u8, state: u64, letter: L) -> Option<u64> {
         let base = base_of(self.tables.models, number)?;
-        let next = union_of(self.rows, base, state);
-        non_empty(reading(self.atoms, base, next, letter))
+        let after = union_of(self.rows, base, state);
+        let next = reading(self.atoms, base, after, letter);
+        (next != 0).then_some(next)
     }
 
     fn ends(&self, number: u8, state: u64) -> bool {
