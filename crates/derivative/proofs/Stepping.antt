@@ -1,12 +1,15 @@
 -- The states of the engines: the beginning, a step by a letter, and the end of a word.
-use Rattle.std.proofs.Common.{◌≡◌, ℕ, ◌+◌, ◌^◌, ◌<◌, ◌≤◌, Bool, true, false, ◌&&◌, ◌≢◌, ◌⊎◌, List, [], ◌∷◌, Some, sym, refl, ap, ◌∙◌, subst, inl, inr, arith}
+use Rattle.std.proofs.Common.{◌≡◌, ℕ, ◌+◌, ◌^◌, ◌<◌, ◌≤◌, Bool, true, false, not, eqb, ◌&&◌, ◌≢◌, ◌⊎◌, List, [], ◌∷◌, Some, None, Option, sym, refl, ap, ◌∙◌, subst, inl, inr, arith, eq-eqb, ne_eqb}
 use Rattle.engine.specs.Languages.{Empty, Answers, Decides, residue}
 use Rattle.models.specs.Expressions.{Exp, atoms, Words}
-use Rattle.models.specs.Folds.{Codes, value}
+use Rattle.std.specs.Bool.{then_some}
+use Rattle.std.specs.Option.{MatchOption}
+use Rattle.std.proofs.lemmas.Bool.{cases_eq}
+use Rattle.models.specs.Folds.{Codes, Folded, value}
 use Rattle.models.specs.Readers.{Numbered, atoms_of, Readers}
 use Rattle.models.specs.Rests.{Rest}
 use Rattle.bits.specs.Sets.{Has, guarded}
-use Rattle.models.specs.Tables.{Coded, Left, ModelWords, ModelRest, Speaks}
+use Rattle.models.specs.Tables.{Coded, NodesOf, Left, ModelWords, ModelRest, Speaks}
 use Rattle.models.specs.declared.node.Model.{Model}
 use Rattle.models.specs.declared.node.Node.{Node}
 use Rattle.bits.proofs.Bits.{has_or, has_or_l, has_or_r, has_none, has_power, has_guarded, guarded_has, some_bit}
@@ -137,6 +140,28 @@ module _ {A X : Type 0} (stands : A → X → Type 0) (nodes : List (Node A)) (m
     pub steps_in : (d : Derived) → d ≡ value (derivation s readers) 0 e → (t : ℕ) → t ≡ after_state s d → (n : ℕ) → Has t n → (0 < n) × (n ≤ 0 + atoms e)
     steps_in d is t reached n h =
         reached_in stands x s readers e (value (derivation s readers) 0 e) knows n (subst (λ u. Has u n) (reached ∙ ap (after_state s) is) h)
+
+-- What is known of the slice of a number's nodes, where they code an expression, answers for the number.
+module _ {A X : Type 0} (stands : A → X → Type 0) (nodes : List (Node A)) (models : List Model) (number : ℕ) (slice : List (Node A)) (of : NodesOf nodes models number slice) where
+  pub ends_found : (s readers : ℕ) (o : Option Derived) → Folded (derivation s readers) 64 slice o → (t : Bool) → MatchOption o (t ≡ false) (λ d. t ≡ ends_in s d) → Decides t (ModelRest stands nodes models number s [])
+  ends_found s readers None none t ended = rw ended (λ h. none h.0 ((of h.0).1 h.1))
+  ends_found s readers (Some d) (e, codes, is) t ended = ends_known stands nodes models number e ((of e).0 codes) s readers d is t ended
+
+  pub opens_found : ((a : A) → (x : X) × stands a x) → (s readers : ℕ) (o : Option Derived) → Folded (derivation s readers) 64 slice o → (r : Option ℕ) → MatchOption o (r ≡ None) (λ d. r ≡ Some 1) → Answers (ModelWords stands nodes models number) (ModelRest stands nodes models number) r
+  opens_found alive s readers None none r opened = rw opened (λ w h. none h.0 ((of h.0).1 h.1))
+  opens_found alive s readers (Some d) (e, codes, is) r opened = rw opened (begin_some stands nodes models number e ((of e).0 codes) alive)
+
+  pub step_found : ((a : A) → (x : X) × stands a x) → (x : X) (s readers : ℕ) → Readers stands slice x readers → (d : Derived) → Folded (derivation s readers) 64 slice (Some d) → (t : ℕ) → t ≡ after_state s d → t < 2 ^ 64 → (r : Option ℕ) → r ≡ then_some (not (eqb t 0)) t → Answers (residue (ModelRest stands nodes models number s) (x ∷ [])) (ModelRest stands nodes models number) r
+  step_found alive x s readers told d (e, codes, is) t reached fits r answered =
+      let coded = (of e).0 codes in
+      let onward = steps stands nodes models number e coded slice x s readers codes told d is t reached in
+      let answers = Answers (residue (ModelRest stands nodes models number s) (x ∷ [])) (ModelRest stands nodes models number) in
+      elim (cases_eq t 0) [
+        | inl none ↦ subst answers (sym (answered ∙ ap (λ b. then_some (not b) t) (eq-eqb t 0 none))) (step_none stands nodes models number e coded x s t onward none)
+        | inr some ↦
+            subst answers (sym (answered ∙ ap (λ b. then_some (not b) t) (ne_eqb t 0 some)))
+            (step_some stands nodes models number e coded alive x s t onward (steps_in stands nodes models number e coded slice x s readers codes told d is t reached) fits some)
+      ]
 
 pub speaks : {A X : Type 0} (stands : A → X → Type 0) (nodes : List (Node A)) (models : List Model) → Speaks stands nodes models (ModelWords stands nodes models)
 speaks stands nodes models = record {

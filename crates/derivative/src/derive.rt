@@ -11,7 +11,7 @@ use models::{Algebra, Node, fold};
 // What is known of an expression, for a letter and the atoms that may have been read last: whether it
 // has the empty word, whether a word may end there, which atoms may read the letter first, and which
 // may read it next.
-#[derive(Clone, Copy)]
+#[derive(Clone, Copy, Debug, Default, PartialEq, Eq)]
 pub struct Derived {
     pub nullable: bool,
     pub ends: bool,
@@ -43,7 +43,7 @@ impl Derived {
 }
 
 // The algebra of a step: the atoms that may have been read last, and the atoms that read the letter.
-#[derive(Clone, Copy)]
+#[derive(Clone, Copy, Debug)]
 pub struct Derive {
     pub from: u64,
     pub readers: u64,
@@ -57,18 +57,15 @@ impl<Atom: Copy> Algebra<Atom> for Derive {
     fn empty_word(&self) -> Derived {
         Derived {
             nullable: true,
-            ends: false,
-            first: 0,
-            next: 0,
+            ..Derived::default()
         }
     }
 
     fn single(&self, number: u8, _atom: Atom) -> Derived {
         Derived {
-            nullable: false,
             ends: contains(self.from, number),
             first: only(number) & self.readers,
-            next: 0,
+            ..Derived::default()
         }
     }
 
@@ -93,43 +90,31 @@ impl<Atom: Copy> Algebra<Atom> for Derive {
     fn any(&self, inside: Derived) -> Derived {
         Derived {
             nullable: true,
-            ends: inside.ends,
-            first: inside.first,
             next: inside.looping(),
+            ..inside
         }
     }
 
     fn some(&self, inside: Derived) -> Derived {
         Derived {
-            nullable: inside.nullable,
-            ends: inside.ends,
-            first: inside.first,
             next: inside.looping(),
+            ..inside
         }
     }
 
     fn maybe(&self, inside: Derived) -> Derived {
         Derived {
             nullable: true,
-            ends: inside.ends,
-            first: inside.first,
-            next: inside.next,
+            ..inside
         }
     }
 }
-
-const NOTHING: Derived = Derived {
-    nullable: false,
-    ends: false,
-    first: 0,
-    next: 0,
-};
 
 // What is known of the expression that the nodes code, if they code one that has at most 63 atoms and
 // needs at most 64 working values.
 pub fn known<Atom: Copy>(nodes: &[Node<Atom>], from: u64, readers: u64) -> Option<Derived>
     ensures { Folded (derivation from readers) 64 nodes.now result }
 {
-    let mut work = [NOTHING; 64];
+    let mut work = [Derived::default(); 64];
     fold(&Derive { from, readers }, nodes, &mut work)
 }

@@ -6,4 +6,4 @@ mod derive;
 mod steps;
 
 pub use derive::{Derive, Derived, known};
-pub use steps::Derivatives;
+pub use steps::{BEGINNING, Derivatives};

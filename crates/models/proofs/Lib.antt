@@ -4,5 +4,6 @@ pub mod Joins
 pub mod Members
 pub mod ModelTables
 pub mod Numbering
+pub mod Options
 pub mod Rests
 pub mod Stacks

@@ -1,5 +1,6 @@
 -- The first places of a slice as a stack: what a write to the slice does to it.
-use Rattle.std.proofs.Common.{◌≡◌, ℕ, zero, suc, ◌+◌, ◌-◌, ◌<◌, ◌≤◌, true, false, ltb, ◌≢◌, List, [], ◌∷◌, ◌++◌, length, get_or, drop, set, replicate, Some, None, Option, sym, refl, ap, ◌∙◌, subst, append-nil, add-one, arith, drop_of_length-le, get_or-set_other, get_or-set_same, le-ltb, lt-ltb}
+use Rattle.std.proofs.Common.{◌≡◌, ℕ, zero, suc, ◌+◌, ◌-◌, ◌<◌, ◌≤◌, true, false, ltb, ◌≢◌, List, [], ◌∷◌, length, get_or, set, replicate, Some, None, Option, sym, refl, ap, ap₂, ◌∙◌, subst, add-one, arith, get_or-set_other, get_or-set_same, le-ltb, lt-ltb}
+use Rattle.std.specs.List.{FoldsTo}
 use Rattle.std.proofs.lemmas.List.{get_or_read}
 use Rattle.models.specs.Turns.{Stack, Takes, pushed, joined, changed, stack, tops}
 use Rattle.models.specs.declared.evaluation.Reached.{Reached}
@@ -88,15 +89,9 @@ module _ {V : Type 0} (d : V) where
   pub takes_none : (t : Option (Stack V)) (w : List V) (r : Option Reached) → r ≡ None → t ≡ None → Takes d t w r
   takes_none t w r e none = subst (λ q. Takes d t w q) (sym e) none
 
--- One place more is cleared.
-pub cleared_more : {V : Type 0} (n : ℕ) (v : V) (w : List V) → n < length w → set (replicate n v ++ drop n w) n v ≡ replicate (n + 1) v ++ drop (n + 1) w
-cleared_more {V} n v w lt = go n w lt ∙ ap (λ k. replicate k v ++ drop k w) (sym (add-one n))
-  where
-    go : (n : ℕ) (w : List V) → n < length w → set (replicate n v ++ drop n w) n v ≡ replicate (suc n) v ++ drop (suc n) w
-    go n [] lt = absurd (omega arith)
-    go zero (x ∷ w) lt = refl
-    go (suc n) (x ∷ w) lt = ap (λ u. v ∷ u) (go n w (omega arith))
-
-pub cleared_all : {V : Type 0} (n : ℕ) (v : V) (w : List V) → n ≡ length w → replicate n v ++ drop n w ≡ replicate (length w) v
-cleared_all n v w all =
-    ap (λ d. replicate n v ++ d) (drop_of_length-le w (omega arith)) ∙ append-nil (replicate n v) ∙ ap (λ k. replicate k v) all
+-- A list whose items are what one closure answers each time is that answer again and again.
+pub filled : {P V : Type 0} (R : P → V → P → Type 0) (v : V) (f : P) → ((x : V) (q : P) → R f x q → (x ≡ v) × (q ≡ f)) → (xs : List V) (p q : P) → p ≡ f → FoldsTo R p xs q → xs ≡ replicate (length xs) v
+filled R v f same [] p q is h = refl
+filled R v f same (x ∷ xs) p q is (j, one, more) =
+    let made = same x j (subst (λ k. R k x j) is one) in
+    ap₂ ◌∷◌ made.0 (filled R v f same xs j q made.1 more)

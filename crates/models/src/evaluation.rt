@@ -136,15 +136,6 @@ fn evaluate<Atom: Copy, G: Algebra<Atom>>(
     }
 }
 
-// Writes a value to every place.
-pub fn clear<V: Copy>(work: &mut [V], value: V)
-    ensures { work.new ≡ replicate (length work.old) value }
-{
-    for i in 0..work.len() {
-        work[i] = value;
-    }
-}
-
 // The value of the expression that the nodes code, or none where they code none that has at most 63
 // atoms and whose working values fit the lent slice. The slice is left at the value of the empty word.
 pub fn fold<Atom: Copy, G: Algebra<Atom>>(
@@ -156,6 +147,6 @@ pub fn fold<Atom: Copy, G: Algebra<Atom>>(
     ensures written { work.new ≡ replicate (length work.old) (G.Algebra.operations algebra.now).empty_word }
 {
     let answer = evaluate(algebra, nodes, work);
-    clear(work, algebra.empty_word());
+    work.fill_with(|| algebra.empty_word());
     answer
 }

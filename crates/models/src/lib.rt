@@ -9,7 +9,7 @@ mod reading;
 mod tables;
 
 pub use algebra::Algebra;
-pub use evaluation::{clear, fold};
+pub use evaluation::fold;
 pub use node::{Model, Node};
 pub use reading::readers;
-pub use tables::{Tables, nodes_of};
+pub use tables::Tables;

@@ -1,8 +1,9 @@
 // The nodes of an expression, members before their operation, and where an expression's nodes stand.
 
 // One node. `Unused` is the zero of a table: it codes nothing.
-#[derive(Clone, Copy)]
+#[derive(Clone, Copy, Debug, Default, PartialEq, Eq)]
 pub enum Node<A> {
+    #[default]
     Unused,
     Empty,
     Atom(A),
@@ -14,7 +15,7 @@ pub enum Node<A> {
 }
 
 // The places of one expression's nodes in a table: from start up to, and without, end.
-#[derive(Clone, Copy)]
+#[derive(Clone, Copy, Debug, Default, PartialEq, Eq)]
 pub struct Model {
     pub start: usize,
     pub end: usize,

@@ -6,7 +6,7 @@ use super::node::{Model, Node};
 
 // The nodes of several expressions, one after the other, and where each one's nodes stand; number n has the
 // record at n - 1.
-#[derive(Clone, Copy)]
+#[derive(Clone, Copy, Debug)]
 pub struct Tables<'n, 'm, Atom> {
     pub nodes: &'n [Node<Atom>],
     pub models: &'m [Model],
@@ -17,24 +17,10 @@ impl<'n, Atom: Copy> Tables<'n, '_, Atom> {
     pub fn nodes_of(&self, number: usize) -> &'n [Node<Atom>]
         ensures { NodesOf self.now.nodes.now self.now.models.now number result.now }
     {
-        nodes_of(self.nodes, self.models, number)
+        number
+            .checked_sub(1)
+            .and_then(|place| self.models.get(place))
+            .and_then(|model| self.nodes.get(model.start..model.end))
+            .unwrap_or(&[])
     }
-}
-
-// The nodes of a number's model, or none where the number has no record that lies in the table.
-pub fn nodes_of<'n, Atom: Copy>(
-    nodes: &'n [Node<Atom>],
-    models: &[Model],
-    number: usize,
-) -> &'n [Node<Atom>]
-    ensures { NodesOf nodes.now models.now number result.now }
-{
-    if number < 1 || number > models.len() {
-        return &nodes[0..0];
-    }
-    let Model { start, end } = models[number - 1];
-    if start > end || end > nodes.len() {
-        return &nodes[0..0];
-    }
-    &nodes[start..end]
 }

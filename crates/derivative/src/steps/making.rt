@@ -6,15 +6,15 @@ ghost use Rattle.std.specs.Prelude.{ℕ};
 
 use super::Derivatives;
 use engine::{Alphabet, Engine};
-use models::{Model, Node};
+use models::Tables;
 
 impl<'n, 'm, L: Alphabet> Derivatives<'n, 'm, L> {
     // The engine over a node table and the records of its models. Its languages are those that they code,
     // and a state is the set of the atoms that may have been read last.
-    pub fn over(nodes: &'n [Node<L::Atom>], models: &'m [Model]) -> Derivatives<'n, 'm, L>
-        ensures languages { Speaks L.Alphabet.stands nodes.now models.now (⟦<Derivatives<'n, 'm, L> as Engine>⟧.language result) }
-        ensures states { (number state : ℕ) → Same (⟦<Derivatives<'n, 'm, L> as Engine>⟧.rest result number state) (ModelRest L.Alphabet.stands nodes.now models.now number state) }
+    pub fn over(tables: Tables<'n, 'm, L::Atom>) -> Derivatives<'n, 'm, L>
+        ensures languages { Speaks L.Alphabet.stands tables.entry.nodes.now tables.entry.models.now (⟦<Derivatives<'n, 'm, L> as Engine>⟧.language result) }
+        ensures states { (number state : ℕ) → Same (⟦<Derivatives<'n, 'm, L> as Engine>⟧.rest result number state) (ModelRest L.Alphabet.stands tables.entry.nodes.now tables.entry.models.now number state) }
     {
-        Derivatives { nodes, models }
+        Derivatives { tables }
     }
 }

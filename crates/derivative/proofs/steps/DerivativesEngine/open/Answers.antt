@@ -1,16 +1,17 @@
+use Rattle.std.proofs.Common.{◌≡◌, rules, None, Some}
+use Rattle.std.specs.Option.{MatchOption}
 use Rattle.models.proofs.ModelTables.{in_each}
-use Rattle.derivative.proofs.Stepping.{begin_some}
+use Rattle.models.proofs.Options.{match_then}
+use Rattle.derivative.proofs.Stepping.{opens_found}
 use Rattle.derivative.proofs.steps.DerivativesEngine.open.Goals as goal
 
-pub returns-in-Some : goal.returns-in-Some
-returns-in-Some g c =
-    let stands = g.L.Alphabet.stands in
-    let nodes = c.args.self.now.nodes.now in
-    let models = c.args.self.now.models.now in
-    let got = c.in-Some.ensures in
-    record {
-      answer =
-          begin_some stands nodes models c.args.number got.0 ((c.nodes_of.ensures got.0).0 got.1)
-          (λ a. (g.L.Alphabet.sample a, g.met.L.Alphabet.sampled a));
-      real = λ w h. in_each (λ k. stands) g.L.Alphabet.real (λ k a x r. g.met.L.Alphabet.stands_for_real a x r) h.0 0 w h.2;
-    }
+pub returns-clause-answer : goal.returns-clause-answer
+returns-clause-answer g c =
+    let tables = c.args.self.now.tables in
+    let opened : MatchOption c.known.result (c.map.result ≡ None) (λ d. c.map.result ≡ Some 1) =
+    match_then _ c.known.result c.map.ensures.cases (λ d h. search rules) in
+    opens_found g.L.Alphabet.stands tables.nodes.now tables.models.now c.args.number c.nodes_of.result.now c.nodes_of.ensures (λ a. (g.L.Alphabet.sample a, g.met.L.Alphabet.sampled a)) 0 0 c.known.result c.known.ensures c.map.result opened
+
+pub returns-clause-real : goal.returns-clause-real
+returns-clause-real g c =
+    λ w h. in_each (λ k. g.L.Alphabet.stands) g.L.Alphabet.real (λ k a x r. g.met.L.Alphabet.stands_for_real a x r) h.0 0 w h.2

@@ -1,26 +1,7 @@
-use Rattle.derivative.proofs.Stepping.{step_none, step_some, steps, steps_in}
+use Rattle.derivative.proofs.Stepping.{step_found}
 use Rattle.derivative.proofs.steps.DerivativesEngine.step.Goals as goal
 
-pub returns-then-next-eq0 : goal.returns-then-next-eq0
-returns-then-next-eq0 g c =
-    let stands = g.L.Alphabet.stands in
-    let nodes = c.args.self.now.nodes.now in
-    let models = c.args.self.now.models.now in
-    let got = c.in-Some.ensures in
-    let coded = (c.nodes_of-nodes.ensures got.0).0 got.1 in
-    step_none stands nodes models c.args.number got.0 coded c.args.letter c.args.state c.reached-next.result
-    (steps stands nodes models c.args.number got.0 coded c.nodes_of-nodes.result.now c.args.letter c.args.state c.readers.result got.1 c.readers.ensures c.in-Some.derived got.2 c.reached-next.result c.reached-next.ensures)
-    c.if-next-eq0.true
-
-pub returns-else-next-eq0 : goal.returns-else-next-eq0
-returns-else-next-eq0 g c =
-    let stands = g.L.Alphabet.stands in
-    let nodes = c.args.self.now.nodes.now in
-    let models = c.args.self.now.models.now in
-    let got = c.in-Some.ensures in
-    let coded = (c.nodes_of-nodes.ensures got.0).0 got.1 in
-    step_some stands nodes models c.args.number got.0 coded (λ a. (g.L.Alphabet.sample a, g.met.L.Alphabet.sampled a)) c.args.letter c.args.state c.reached-next.result
-    (steps stands nodes models c.args.number got.0 coded c.nodes_of-nodes.result.now c.args.letter c.args.state c.readers.result got.1 c.readers.ensures c.in-Some.derived got.2 c.reached-next.result c.reached-next.ensures)
-    (steps_in stands nodes models c.args.number got.0 coded c.nodes_of-nodes.result.now c.args.letter c.args.state c.readers.result got.1 c.readers.ensures c.in-Some.derived got.2 c.reached-next.result c.reached-next.ensures)
-    c.reached-next.type_inv
-    c.if-next-eq0.false
+pub returns : goal.returns
+returns g c =
+    let tables = c.args.self.now.tables in
+    step_found g.L.Alphabet.stands tables.nodes.now tables.models.now c.args.number c.nodes_of-nodes.result.now c.nodes_of-nodes.ensures (λ a. (g.L.Alphabet.sample a, g.met.L.Alphabet.sampled a)) c.args.letter c.args.state c.readers.result c.readers.ensures c.in_ok-derived.derived c.in_ok-derived.ensures c.reached-next.result c.reached-next.ensures c.reached-next.type_inv c.then_some.result c.then_some.ensures
