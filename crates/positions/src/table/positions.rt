@@ -6,11 +6,9 @@ ghost use Rattle.positions.specs.Walks.{Based};
 
 use super::super::walks::{reading, union_of};
 use super::FollowTable;
+use derivative::BEGINNING;
 use engine::{Alphabet, Engine};
 use models::Model;
-
-// The state at the beginning: no atom was read yet.
-const BEGINNING: u64 = 1;
 
 // Where a number's places begin, if it has a record.
 pub(crate) fn base_of(models: &[Model], number: u8) -> Option<usize>
