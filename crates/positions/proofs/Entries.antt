@@ -1,20 +1,21 @@
 -- The entries of the tables, one by one.
-use Rattle.std.proofs.Common.{◌≡◌, ℕ, zero, suc, ◌+◌, ◌*◌, ◌/◌, ◌<◌, ◌≤◌, Bool, ◌≢◌, ◌⊎◌, List, [], ◌∷◌, length, get_or, set, map, filter, slice_get, Option, Some, None, unwrap_or, sym, refl, ap, ◌∙◌, subst, inl, inr, arith, below_more, get_or-set_other, get_or-set_same}
+use Rattle.std.proofs.Common.{◌≡◌, ℕ, zero, suc, ◌+◌, ◌*◌, ◌/◌, ◌%◌, ◌<◌, ◌≤◌, Bool, ◌≢◌, ◌⊎◌, List, [], ◌∷◌, length, get_or, set, map, filter, slice_get, Option, Some, None, unwrap_or, MatchOption, sym, refl, ap, ◌∙◌, subst, inl, inr, arith, below_more, get_or-set_other, get_or-set_same}
 use native.Mathlib.Decide.{dec_le}
 use lib.Bits.{bit_or}
 use lib.ListN.{get_or-eq_default}
 use Rattle.derivative.specs.Derivation.{derivation, after_state, ends_in}
 use Rattle.derivative.specs.declared.derive.Derived.{Derived}
 use Rattle.models.specs.Expressions.{Exp}
-use Rattle.models.specs.Folds.{value}
+use Rattle.models.specs.Folds.{Folded, value}
 use Rattle.models.specs.Readers.{atoms_of, Numbered}
 use Rattle.bits.specs.Sets.{guarded, singleton}
-use Rattle.models.specs.Tables.{Coded}
+use Rattle.models.specs.Tables.{Coded, NodesOf}
 use Rattle.models.specs.declared.node.Model.{Model}
 use Rattle.models.specs.declared.node.Node.{Node}
 use Rattle.models.specs.declared.node.Node.TheVariants as node
+use Rattle.models.proofs.ModelTables.{coded_one}
 use Rattle.models.proofs.Numbering.{numbered_in, numbered_one}
-use Rattle.positions.specs.Following.{everything, row, is_atom, AtomAt, Rows, Atoms, Followed, Blank, Placed, Spare}
+use Rattle.positions.specs.Following.{everything, row, is_atom, AtomAt, RowAt, Rows, Atoms, Followed, Blank, Placed, Spare}
 
 -- One place more is written.
 pub written_more : {A : Type 0} (P : ℕ → A → Type 0) (d : A) (xs : List A) (i : ℕ) (x : A) → i < length xs → ((k : ℕ) → k < i → P k (get_or xs k d)) → P i x → (k : ℕ) → k < i + 1 → P k (get_or (set xs i x) k d)
@@ -24,13 +25,20 @@ written_more P d xs i x lt before here =
     (subst (P i) (sym (get_or-set_same xs i x d lt)) here)
 
 -- A row from what was computed for it.
-pub row_made : {A : Type 0} (e : Exp A) (p from : ℕ) (d : Derived) (reached : ℕ) (t : Bool) (w : ℕ) → from ≡ singleton p → d ≡ value (derivation from everything) 0 e → reached ≡ after_state from d → t ≡ ends_in from d → w ≡ guarded t 1 → bit_or reached w ≡ row e p
-row_made e p from d reached t w is known got ended bit =
-    let made : ℕ → Derived → ℕ = λ s v. bit_or (after_state s v) (guarded (ends_in s v) 1) in
-    ap (λ r. bit_or r w) got
-    ∙ ap (λ b. bit_or (after_state from d) b) (bit ∙ ap (λ u. guarded u 1) ended)
-    ∙ ap (made from) known
-    ∙ ap (λ s. made s (value (derivation s everything) 0 e)) is
+module _ {A : Type 0} (nodes : List (Node A)) (models : List Model) (i : ℕ) (slice : List (Node A)) (of : NodesOf nodes models (i / 64 + 1) slice) where
+  pub row_found : (from : ℕ) → from ≡ singleton (i % 64) → (o : Option Derived) → Folded (derivation from everything) 64 slice o → (entry : ℕ) → MatchOption o (entry ≡ 0) (λ d. entry ≡ bit_or (after_state from d) (guarded (ends_in from d) 1)) → RowAt nodes models i entry
+  row_found from is None never entry made = record {
+    coded = λ e h. absurd (never e ((of e).1 h));
+    none = λ h. made;
+  }
+  row_found from is (Some d) (e, codes, known) entry made =
+      let made_of : ℕ → Derived → ℕ = λ s v. bit_or (after_state s v) (guarded (ends_in s v) 1) in
+      let coded = (of e).0 codes in
+      let entry_is : entry ≡ row e (i % 64) = made ∙ ap (made_of from) known ∙ ap (λ s. made_of s (value (derivation s everything) 0 e)) is in
+      record {
+        coded = λ f h. entry_is ∙ ap (λ g. row g (i % 64)) (coded_one nodes models (i / 64 + 1) e f coded h);
+        none = λ h. absurd (h e coded);
+      }
 
 -- The atoms among the nodes, in order, are the nodes that are atoms.
 atoms_filtered : {A : Type 0} (nodes : List (Node A)) → filter is_atom nodes ≡ map node.Atom (atoms_of nodes)

@@ -1,5 +1,5 @@
 -- Reading the follow table: its rows and atoms give the words that go on with a letter, and those that end.
-use Rattle.std.proofs.Common.{◌≡◌, ℕ, zero, suc, ◌+◌, ◌-◌, ◌*◌, ◌/◌, ◌%◌, ◌^◌, ◌<◌, ◌≤◌, Bool, true, false, ◌&&◌, eqb, ◌≢◌, ◌⊎◌, List, [], ◌∷◌, get_or, Some, Option, not, sym, refl, ap, ◌∙◌, subst, inl, inr, add-zero, div-one, arith, eq-eqb, eqb-true}
+use Rattle.std.proofs.Common.{◌≡◌, ℕ, zero, suc, ◌+◌, ◌-◌, ◌*◌, ◌/◌, ◌%◌, ◌^◌, ◌<◌, ◌≤◌, Bool, true, false, ◌&&◌, eqb, ◌≢◌, ◌⊎◌, List, [], ◌∷◌, get_or, Some, None, Option, MatchOption, not, sym, refl, ap, ◌∙◌, subst, inl, inr, add-zero, div-one, arith, eq-eqb, eqb-true}
 use borrow.Author.Tests.{eqb-false}
 use Rattle.std.specs.Bool.{then_some}
 use Rattle.engine.specs.Languages.{Empty, Answers, Decides, residue}
@@ -21,7 +21,7 @@ use Rattle.derivative.specs.Derivation.{member, after_state, ends_in}
 use Rattle.derivative.proofs.Knowing.{iff_member, iff_and, iff_or, iff_then, nullable_computed, ends_computed}
 use Rattle.derivative.proofs.Stepping.{ends_decided, begin_some, step_none, step_some}
 use Rattle.positions.specs.Following.{everything, row, Followed, Blank, Placed, Spare}
-use Rattle.positions.specs.Walks.{Reads, Kept, Union}
+use Rattle.positions.specs.Walks.{Based, Reads, Kept, Union}
 use Rattle.positions.proofs.Splitting.{one, single_is, first_same, Tells, First, Next, Split, split}
 
 bit_zero : (u : ℕ) → Iff (eqb (u % 2) 1 ≡ true) (Has u 0)
@@ -225,7 +225,7 @@ module _ {A X : Type 0} (stands : A → X → Type 0) (nodes : List (Node A)) (m
   no_union never s u n fits union h =
       let (p, sp, r) = (union n).0 h in has_none n (subst (λ t. Has t n) (zero_row never p (has_small s p fits sp)) r)
 
-  pub ends_answer : (s u : ℕ) → s < 2 ^ 64 → Union rows base s u → Decides (eqb (u % 2) 1) (ModelRest stands nodes models number s [])
+  ends_answer : (s u : ℕ) → s < 2 ^ 64 → Union rows base s u → Decides (eqb (u % 2) 1) (ModelRest stands nodes models number s [])
   ends_answer s u fits union =
       elim (coded_or_not nodes models number) [
         | inl (e, c) ↦ ends_decided stands nodes models number e c s (eqb (u % 2) 1) (iff_then (bit_zero u) (end_told stands nodes models rows [] number base from_one starts e c followed s u fits union))
@@ -278,3 +278,10 @@ module _ {A X : Type 0} (stands : A → X → Type 0) (nodes : List (Node A)) (m
           told : (t : Bool) → eqb k 0 ≡ t → Answers (residue (ModelRest stands nodes models number s) (x ∷ [])) (ModelRest stands nodes models number) (then_some (not t) k)
           told true e = step_nothing (eqb-true k 0 e)
           told false e = step_something small (eqb-false k 0 e)
+
+-- A word may end by the rows of a number that has a record, and by no other.
+pub ends_found : {A X : Type 0} (stands : A → X → Type 0) (nodes : List (Node A)) (models : List Model) (rows : List ℕ) (number : ℕ) → Followed nodes models rows → Blank nodes models rows → (s : ℕ) → s < 2 ^ 64 → (o : Option ℕ) → Based models number o → (b : Bool) → MatchOption o (b ≡ false) (λ base. (u : ℕ) × Union rows base s u × (b ≡ eqb (u % 2) 1)) → Decides b (ModelRest stands nodes models number s [])
+ends_found stands nodes models rows number followed blank s fits None none b ended =
+    rw ended (λ h. let c = h.1 in elim none [ inl low ↦ absurd (omega (arith, c.from_one)) | inr high ↦ absurd (omega (arith, c.listed)) ])
+ends_found stands nodes models rows number followed blank s fits (Some base) based b (u, union, is) =
+    rw is (ends_answer stands nodes models rows number base based.0 based.2 followed blank s u fits union)

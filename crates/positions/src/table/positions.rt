@@ -38,9 +38,7 @@ impl<L: Alphabet> Engine for FollowTable<'_, '_, '_, '_, L> {
     }
 
     fn ends(&self, number: u8, state: u64) -> bool {
-        match base_of(self.tables.models, number) {
-            Some(base) => union_of(self.rows, base, state) % 2 == 1,
-            None => false,
-        }
+        base_of(self.tables.models, number)
+            .is_some_and(|base| union_of(self.rows, base, state) % 2 == 1)
     }
 }
