@@ -81,7 +81,7 @@ module _ (set : ℕ) where
 
 module _ (nodes : List (Node ContentAtom)) (models : List Model) (number set : ℕ) where
   -- What the fold computes decides whether the number can be completed.
-  completes_told : (e : Exp ContentAtom) → Coded nodes models number e → (v : Bool) → v ≡ value (completion set) 0 e → Decides v (Completes nodes models set number)
+  pub completes_told : (e : Exp ContentAtom) → Coded nodes models number e → (v : Bool) → v ≡ value (completion set) 0 e → Decides v (Completes nodes models set number)
   completes_told e c true is = let (w, l, p) = word_within set e 0 (sym is) in (w, (e, c, l), p)
   completes_told e c false is =
       λ (w, (f, d, l), p).
