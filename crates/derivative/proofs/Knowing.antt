@@ -5,12 +5,12 @@ use Rattle.models.specs.Expressions.{Exp, empty, atom, seq, alt, star, plus, opt
 use Rattle.models.specs.Folds.{value}
 use Rattle.models.specs.Readers.{Numbered}
 use Rattle.models.specs.Rests.{Rest}
-use Rattle.bits.specs.Sets.{Has, singleton, guarded}
+use Rattle.bits.specs.Sets.{has, Has, singleton, guarded}
 use Rattle.bits.proofs.Bits.{has_or, has_or_l, has_or_r, has_none, has_and, and_has, has_single, single_has, has_guarded, guarded_has}
 use Rattle.models.proofs.Derivation.{Iff, Derives, derives_by, derives_empty, derives_atom, derives_seq, derives_alt, derives_star, derives_plus, derives_option}
 use Rattle.models.proofs.Joins.{then_nil, then_skip}
 use Rattle.models.proofs.Numbering.{leaves, length_leaves, numbered_append}
-use Rattle.derivative.specs.Derivation.{member, derivation}
+use Rattle.derivative.specs.Derivation.{derivation}
 use Rattle.derivative.specs.declared.derive.Derived.{Derived}
 
 false_true : {P : Type 0} → false ≡ true → P
@@ -51,7 +51,7 @@ iff_union s t n = (has_or s t n, elim [ inl h ↦ has_or_l s t n h | inr h ↦ h
 pub iff_guarded : (t : Bool) (s n : ℕ) → Iff (Has (guarded t s) n) ((t ≡ true) × Has s n)
 iff_guarded t s n = (has_guarded t s n, guarded_has t s n)
 
-pub iff_member : (s n : ℕ) → Iff (member s n ≡ true) (Has s n)
+pub iff_member : (s n : ℕ) → Iff (has s n ≡ true) (Has s n)
 iff_member s n = (eqb-true ((s / 2 ^ n) % 2) 1, eq-eqb ((s / 2 ^ n) % 2) 1)
 
 module _ {A X : Type 0} (reads : ℕ → A → X → Type 0) (x : X) (from readers : ℕ) where

@@ -8,7 +8,7 @@ use Rattle.std.proofs.lemmas.Bool.{cases_eq}
 use Rattle.models.specs.Folds.{Codes, Folded, value}
 use Rattle.models.specs.Readers.{Numbered, atoms_of, Readers}
 use Rattle.models.specs.Rests.{Rest}
-use Rattle.bits.specs.Sets.{Has, guarded}
+use Rattle.bits.specs.Sets.{has, Has, guarded}
 use Rattle.models.specs.Tables.{Coded, NodesOf, Left, ModelWords, ModelRest, Speaks}
 use Rattle.models.specs.declared.node.Model.{Model}
 use Rattle.models.specs.declared.node.Node.{Node}
@@ -17,7 +17,7 @@ use Rattle.models.proofs.Derivation.{Iff}
 use Rattle.models.proofs.ModelTables.{coded_one}
 use Rattle.models.proofs.Numbering.{leaves, length_leaves, numbered_in, numbered_one, coded_leaves}
 use Rattle.models.proofs.Rests.{rest_mono, rest_or, rest_some, rest_guard, rest_live, word}
-use Rattle.derivative.specs.Derivation.{member, derivation, after_state, ends_in}
+use Rattle.derivative.specs.Derivation.{derivation, after_state, ends_in}
 use Rattle.derivative.specs.declared.derive.Derived.{Derived}
 use Rattle.derivative.proofs.Knowing.{Knows, Agrees, computed, iff_member, iff_and, iff_or, iff_sum, iff_both, iff_then, nullable_computed, ends_computed}
 
@@ -40,19 +40,19 @@ module _ {A X : Type 0} (stands : A → X → Type 0) where
     pub left_step : (w : List X) → Iff (Left stands e s (x ∷ w)) (Rest (λ n. stands) e 0 (Has (after_state s d)) w)
     left_step w = (
       elim [
-        | inl h ↦ rest_mono (λ n. stands) e 0 (λ n lo hi k. has_or_l (guarded (member s 0) d.first) d.next n (guarded_has (member s 0) d.first n ((iff_member s 0).1 h.0, k))) w ((knows.first_is w).1 h.1)
-        | inr h ↦ rest_mono (λ n. stands) e 0 (λ n lo hi k. has_or_r (guarded (member s 0) d.first) d.next n k) w ((knows.next_is w).1 h)
+        | inl h ↦ rest_mono (λ n. stands) e 0 (λ n lo hi k. has_or_l (guarded (has s 0) d.first) d.next n (guarded_has (has s 0) d.first n ((iff_member s 0).1 h.0, k))) w ((knows.first_is w).1 h.1)
+        | inr h ↦ rest_mono (λ n. stands) e 0 (λ n lo hi k. has_or_r (guarded (has s 0) d.first) d.next n k) w ((knows.next_is w).1 h)
       ],
       λ h.
-          let split = rest_mono (λ n. stands) e 0 {T = λ n. ((member s 0 ≡ true) × Has d.first n) ⊎ Has d.next n} (λ n lo hi k. elim (has_or (guarded (member s 0) d.first) d.next n k) [ inl m ↦ inl (has_guarded (member s 0) d.first n m) | inr m ↦ inr m ]) w h in
-          elim (rest_or (λ n. stands) e 0 (λ n. (member s 0 ≡ true) × Has d.first n) (Has d.next) w split) [
-            | inl k ↦ let m = rest_guard (λ n. stands) e 0 (member s 0 ≡ true) (Has d.first) w k in inl ((iff_member s 0).0 m.0, (knows.first_is w).0 m.1)
+          let split = rest_mono (λ n. stands) e 0 {T = λ n. ((has s 0 ≡ true) × Has d.first n) ⊎ Has d.next n} (λ n lo hi k. elim (has_or (guarded (has s 0) d.first) d.next n k) [ inl m ↦ inl (has_guarded (has s 0) d.first n m) | inr m ↦ inr m ]) w h in
+          elim (rest_or (λ n. stands) e 0 (λ n. (has s 0 ≡ true) × Has d.first n) (Has d.next) w split) [
+            | inl k ↦ let m = rest_guard (λ n. stands) e 0 (has s 0 ≡ true) (Has d.first) w k in inl ((iff_member s 0).0 m.0, (knows.first_is w).0 m.1)
             | inr k ↦ inr ((knows.next_is w).0 k)
           ],
     )
 
     pub reached_in : (n : ℕ) → Has (after_state s d) n → (0 < n) × (n ≤ 0 + atoms e)
-    reached_in n h = elim (has_or (guarded (member s 0) d.first) d.next n h) [ inl k ↦ knows.first_in n (has_guarded (member s 0) d.first n k).1 | inr k ↦ knows.next_in n k ]
+    reached_in n h = elim (has_or (guarded (has s 0) d.first) d.next n h) [ inl k ↦ knows.first_in n (has_guarded (has s 0) d.first n k).1 | inr k ↦ knows.next_in n k ]
 
     -- A state that was reached by a letter is not the beginning.
     pub left_reached : (w : List X) → Iff (Left stands e (after_state s d) w) (Rest (λ n. stands) e 0 (Has (after_state s d)) w)
@@ -61,7 +61,7 @@ module _ {A X : Type 0} (stands : A → X → Type 0) where
   -- Whether the empty word is left.
   pub left_end : (e : Exp A) (s : ℕ) (d : Derived) → Iff (d.nullable ≡ true) (Words stands e []) → Iff (d.ends ≡ true) (Rest (λ n. stands) e 0 (Has s) []) → Iff (ends_in s d ≡ true) (Left stands e s [])
   left_end e s d null last =
-      iff_then (iff_or (member s 0 && d.nullable) d.ends) (iff_sum (iff_then (iff_and (member s 0) d.nullable) (iff_both (iff_member s 0) null)) last)
+      iff_then (iff_or (has s 0 && d.nullable) d.ends) (iff_sum (iff_then (iff_and (has s 0) d.nullable) (iff_both (iff_member s 0) null)) last)
 
 -- From the expression of a number to the languages of the number.
 module _ {A X : Type 0} (stands : A → X → Type 0) (nodes : List (Node A)) (models : List Model) (number : ℕ) (e : Exp A) (coded : Coded nodes models number e) where

@@ -1,18 +1,14 @@
 -- The algebra of a step: how what is known of an expression comes from what is known of its parts.
-use Rattle.std.specs.Prelude.{ℕ, ◌/◌, ◌%◌, ◌^◌, Bool, true, false, ◌&&◌, ◌||◌, ◌==◌, bit_and, bit_or}
+use Rattle.std.specs.Prelude.{ℕ, Bool, true, false, ◌&&◌, ◌||◌, bit_and, bit_or}
 use Rattle.models.specs.Folds.{Operations}
-use Rattle.bits.specs.Sets.{singleton, guarded}
+use Rattle.bits.specs.Sets.{has, singleton, guarded}
 use Rattle.derivative.specs.declared.derive.Derived.{Derived}
-
--- Whether a number is in a set.
-abbrev pub member : ℕ → ℕ → Bool
-member set n = (set / 2 ^ n) % 2 == 1
 
 -- From the atoms that may have been read last and the atoms that read the letter.
 abbrev pub derivation : {Atom : Type 0} → ℕ → ℕ → Operations Atom Derived
 derivation from readers = record {
   empty_word = record { nullable = true; ends = false; first = 0; next = 0 };
-  single = λ n a. record { nullable = false; ends = member from n; first = bit_and (singleton n) readers; next = 0 };
+  single = λ n a. record { nullable = false; ends = has from n; first = bit_and (singleton n) readers; next = 0 };
   both = λ l r. record {
     nullable = l.nullable && r.nullable;
     ends = (l.ends && r.nullable) || r.ends;
@@ -43,8 +39,8 @@ derivation from readers = record {
 -- The atoms that may have read the letter, from a state: those that may read it first where 0 is in the
 -- state, and those that may read it next.
 abbrev pub after_state : ℕ → Derived → ℕ
-after_state state d = bit_or (guarded (member state 0) d.first) d.next
+after_state state d = bit_or (guarded (has state 0) d.first) d.next
 
 -- Whether a word may end in a state.
 abbrev pub ends_in : ℕ → Derived → Bool
-ends_in state d = (member state 0 && d.nullable) || d.ends
+ends_in state d = (has state 0 && d.nullable) || d.ends

@@ -1,9 +1,11 @@
 -- The turns over the nodes answer the value of the expression that they code, and none where they code none.
-use Rattle.std.proofs.Common.{◌≡◌, ℕ, zero, suc, ◌+◌, ◌<◌, ◌≤◌, max, Bool, true, false, ltb, ◌⊎◌, List, [], ◌∷◌, ◌++◌, length, get_or, drop, Some, None, Option, sym, refl, ap, ◌∙◌, subst, ap₂, inl, inr, append_assoc, append-nil, add-zero, add_assoc, arith, length-append, drop_of_length-le, ltb-true, lt-ltb}
-use Rattle.std.proofs.lemmas.List.{get_or_read, drop_more}
+use Rattle.std.proofs.Common.{◌≡◌, ℕ, suc, ◌+◌, ◌<◌, ◌≤◌, max, Bool, true, false, ltb, ◌⊎◌, List, [], ◌∷◌, ◌++◌, length, get_or, drop, Some, None, Option, sym, refl, ap, ◌∙◌, subst, ap₂, inl, inr, append_assoc, append-nil, add-zero, add_assoc, arith, length-append, drop_of_length-le, ltb-true, lt-ltb}
+use Rattle.std.specs.Bool.{then_some}
+use Rattle.std.specs.Option.{MatchOption, is_none}
+use Rattle.std.proofs.lemmas.List.{drop_more}
 use Rattle.models.specs.Expressions.{Exp, empty, atom, seq, alt, star, plus, option, atoms}
 use Rattle.models.specs.Folds.{code, depth, Operations, value, Codes, Folded}
-use Rattle.models.specs.Turns.{Stack, pushed, joined, changed, turned, tops}
+use Rattle.models.specs.Turns.{Stack, pushed, joined, changed, turned}
 use Rattle.models.specs.declared.node.Node.{Node}
 use Rattle.models.specs.declared.node.Node.TheVariants as node
 use Rattle.models.proofs.Stacks.{pushed_true, pushed_false}
@@ -221,17 +223,12 @@ module _ {A V : Type 0} (o : Operations A V) (room : ℕ) where
       ap (λ ns. run o room ns s) (drop_more nodes i x lt ∙ ap (λ y. y ∷ drop (i + 1) nodes) (sym is)) ∙ run_stop x (drop (i + 1) nodes) s h
 
   -- After the last turn the one value left is the answer.
-  pub last_one : (nodes : List (Node A)) (i : ℕ) (d x : V) (w : List V) (n : ℕ) → length nodes ≤ i → 1 ≤ length w → x ≡ get_or w 0 x → run o room (drop i nodes) (tops d w 1, n) ≡ Some x
-  last_one nodes i d x w n all some is =
-      ap (λ ns. run o room ns (tops d w 1, n)) (drop_of_length-le nodes all) ∙ ap Some (sym (get_or_read w 0 x some is d))
+  pub last : (nodes : List (Node A)) (i : ℕ) (vs : List V) (n : ℕ) → length nodes ≤ i → run o room (drop i nodes) (vs, n) ≡ only vs
+  last nodes i vs n all = ap (λ ns. run o room ns (vs, n)) (drop_of_length-le nodes all)
 
-  pub last_other : (nodes : List (Node A)) (i : ℕ) (d : V) (w : List V) (h n : ℕ) → length nodes ≤ i → (h ≡ 1 → ⊥) → run o room (drop i nodes) (tops d w h, n) ≡ None
-  last_other nodes i d w h n all ne = ap (λ ns. run o room ns (tops d w h, n)) (drop_of_length-le nodes all) ∙ more_or_less h ne
-    where
-      more_or_less : (k : ℕ) → (k ≡ 1 → ⊥) → only (tops d w k) ≡ None
-      more_or_less zero ne = refl
-      more_or_less (suc zero) ne = absurd (ne refl)
-      more_or_less (suc (suc k)) ne = refl
+pub only_one : {V : Type 0} (v : V) (vs us : List V) (next : Option V) → MatchOption next (vs ≡ []) (λ u. vs ≡ u ∷ us) → only (v ∷ vs) ≡ then_some (is_none next) v
+only_one v vs us None is = ap (λ ws. only (v ∷ ws)) is
+only_one v vs us (Some u) is = ap (λ ws. only (v ∷ ws)) is
 
 -- The expressions themselves as an algebra.
 abbrev free : {A : Type 0} → Operations A (Exp A)

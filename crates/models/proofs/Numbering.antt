@@ -1,15 +1,21 @@
 -- The atoms of nodes and of expressions have the same numbers; what is found of them, node by node.
-use Rattle.std.proofs.Common.{◌≡◌, ℕ, suc, ◌+◌, ◌<◌, ◌≤◌, min, ◌⊎◌, List, [], ◌∷◌, ◌++◌, length, sym, refl, ap, ◌∙◌, subst, ap₂, inl, inr, append_assoc, append-nil, add-zero, arith, length-append}
+use Rattle.std.proofs.Common.{◌≡◌, ℕ, zero, suc, Bool, Option, true, false, ltb, ltb-true, ◌^◌, ◌+◌, ◌<◌, ◌≤◌, ◌⊎◌, List, [], ◌∷◌, ◌++◌, length, sym, refl, ap, ◌∙◌, subst, ap₂, inl, inr, append_assoc, append-nil, add-zero, arith, length-append}
 use native.Mathlib.Decide.{dec_le}
 use lib.Bits.{bit_or}
 use Rattle.models.specs.Expressions.{Exp, empty, atom, seq, alt, star, plus, option, atoms}
 use Rattle.models.specs.Folds.{code}
-use Rattle.models.specs.Readers.{atom_of, atoms_of, Numbered, Sees}
-use Rattle.bits.specs.Sets.{Has, singleton}
+use Rattle.models.specs.Readers.{atom_in, atom_of, atoms_of, Numbered, Readers}
+use Rattle.bits.specs.Sets.{Has, singleton, guarded}
+use Rattle.engine.specs.Languages.{Decides}
+use Rattle.std.specs.List.{FoldsTo, filter_map, zip, range_with_len}
+use Rattle.std.specs.Fn.{Called}
+use Rattle.std.specs.Iterator.{Drains}
+use denote.Param.Members.{Mut}
+use Rattle.std.proofs.lemmas.Fn.{fold_over}
+use Rattle.std.proofs.lemmas.Iterator.{YieldsList}
 use Rattle.models.specs.declared.node.Node.{Node}
 use Rattle.models.specs.declared.node.Node.TheVariants as node
-use Rattle.models.specs.declared.reading.Found.{Found}
-use Rattle.bits.proofs.Bits.{has_or, has_or_l, has_or_r, has_single, single_has}
+use Rattle.bits.proofs.Bits.{has_or, has_or_l, has_or_r, has_none, has_power, single_has, has_guarded}
 use Rattle.models.proofs.Derivation.{Iff}
 
 pub atoms_of_append : {A : Type 0} (xs ys : List (Node A)) → atoms_of (xs ++ ys) ≡ atoms_of xs ++ atoms_of ys
@@ -107,86 +113,96 @@ no_atom node.Star h = refl
 no_atom node.Plus h = refl
 no_atom node.Opt h = refl
 
+-- The atoms among the nodes, one at a time.
+pub atoms_found : {A : Type 0} (nodes : List (Node A)) → filter_map atom_in nodes ≡ atoms_of nodes
+atoms_found [] = refl
+atoms_found (node.Unused ∷ nodes) = atoms_found nodes
+atoms_found (node.Empty ∷ nodes) = atoms_found nodes
+atoms_found (node.Atom a ∷ nodes) = ap (λ cs. a ∷ cs) (atoms_found nodes)
+atoms_found (node.Seq ∷ nodes) = atoms_found nodes
+atoms_found (node.Alt ∷ nodes) = atoms_found nodes
+atoms_found (node.Star ∷ nodes) = atoms_found nodes
+atoms_found (node.Plus ∷ nodes) = atoms_found nodes
+atoms_found (node.Opt ∷ nodes) = atoms_found nodes
+
+-- The list has the atom with the number.
+abbrev pub Paired : {A : Type 0} → List (A × ℕ) → ℕ → A → Type 0
+Paired [] n a = ⊥
+Paired (p ∷ ps) n a = ((p.0 ≡ a) × (p.1 ≡ n)) ⊎ Paired ps n a
+
+paired_push : {A : Type 0} (ps : List (A × ℕ)) (p : A × ℕ) (n : ℕ) (a : A) → Iff (Paired (ps ++ (p ∷ [])) n a) (Paired ps n a ⊎ ((p.0 ≡ a) × (p.1 ≡ n)))
+paired_push [] p n a = (elim [ inl h ↦ inr h | inr h ↦ absurd h ], elim [ inl h ↦ absurd h | inr h ↦ inl h ])
+paired_push (q ∷ ps) p n a =
+    let later = paired_push ps p n a in (
+      elim [ inl h ↦ inl (inl h) | inr h ↦ elim (later.0 h) [ inl k ↦ inl (inr k) | inr k ↦ inr k ] ],
+      elim [ inl h ↦ elim h [ inl k ↦ inl k | inr k ↦ inr (later.1 (inl k)) ] | inr h ↦ inr (later.1 (inr h)) ],
+    )
+
+-- The atoms beside the numbers from the first on, as far as these go.
+pub paired_numbered : {A : Type 0} (cs : List A) (b k n : ℕ) (a : A) → Iff (Paired (zip cs (range_with_len (b + 1) k)) n a) ((n ≤ b + k) × Numbered cs b n a)
+paired_numbered [] b k n a = (λ h. absurd h, λ h. absurd h.1)
+paired_numbered (c ∷ cs) b zero n a = (λ h. absurd h, λ h. let inside = numbered_in (c ∷ cs) b n a h.1 in let few = h.0 in absurd (omega arith))
+paired_numbered (c ∷ cs) b (suc k) n a =
+    let later = paired_numbered cs (b + 1) k n a in (
+      elim [
+        | inl h ↦ let e = h.1 in (omega arith, inl (sym h.1, h.0))
+        | inr h ↦ let few = (later.0 h).0 in (omega arith, inr (later.0 h).1)
+      ],
+      λ h. let few = h.0 in elim h.1 [
+        | inl m ↦ inl (m.1, sym m.0)
+        | inr m ↦ inr (later.1 (omega arith, m))
+      ],
+    )
+
+has_singleton : (m n : ℕ) → Has (singleton m) n → (m < 64) × (n ≡ m)
+has_singleton m n h = let (below, k) = has_guarded (ltb m 64) (2 ^ m) n h in (ltb-true m 64 below, has_power m n k)
+
 module _ {A X : Type 0} (stands : A → X → Type 0) (x : X) where
-  -- What a list of atoms says of a set of their numbers.
-  abbrev Told : List A → ℕ → Type 0
-  Told cs set = (n : ℕ) → Iff (Has set n) ((n ≤ 63) × ((a : A) × Numbered cs 0 n a × stands a x))
+  -- What the pairs of atoms and numbers say of a set of the numbers.
+  abbrev pub Told : List (A × ℕ) → ℕ → Type 0
+  Told ps set = (n : ℕ) → Iff (Has set n) ((n ≤ 63) × ((a : A) × Paired ps n a × stands a x))
 
-  pub sees_same : (seen : List (Node A)) (y : Node A) (f : Found) → atom_of y ≡ [] → Sees stands x seen f → Sees stands x (seen ++ (y ∷ [])) f
-  sees_same seen y f none s =
-      let e : atoms_of seen ≡ atoms_of (seen ++ (y ∷ [])) = sym (atoms_of_push seen y ∙ ap (λ cs. atoms_of seen ++ cs) none ∙ append-nil (atoms_of seen)) in
-      record {
-        counted = s.counted ∙ ap (λ cs. min 63 (length cs)) e;
-        reading = subst (λ cs. Told cs f.set) e s.reading;
-      }
+  told_none : Told [] 0
+  told_none n = (λ h. absurd (has_none n h), λ h. absurd h.1.1)
 
-  pub sees_full : (seen : List (Node A)) (c : A) (f : Found) → 63 ≤ f.atoms → Sees stands x seen f → Sees stands x (seen ++ (node.Atom c ∷ [])) f
-  sees_full seen c f full s =
-      let cs = atoms_of seen in
-      let e : cs ++ (c ∷ []) ≡ atoms_of (seen ++ (node.Atom c ∷ [])) = sym (atoms_of_push seen (node.Atom c)) in
-      let k = s.counted in
-      record {
-        counted = (let len = length-append cs (c ∷ []) in let m : f.atoms ≡ min 63 (length (cs ++ (c ∷ []))) = omega arith in m) ∙ ap (λ ds. min 63 (length ds)) e;
-        reading = subst (λ ds. Told ds f.set) e λ n. (
-          λ h. let t = (s.reading n).0 h in (t.0, (t.1.0, (numbered_append cs (c ∷ []) 0 n t.1.0).1 (inl t.1.1), t.1.2)),
-          λ h. elim ((numbered_append cs (c ∷ []) 0 n h.1.0).0 h.1.1) [
-            | inl m ↦ (s.reading n).1 (h.0, (h.1.0, m, h.1.2))
-            | inr m ↦ elim m [ inl p ↦ let q = p.0 in let r = h.0 in absurd (omega arith) | inr p ↦ absurd p ]
-          ],
-        );
-      }
+  told_before : (ps : List (A × ℕ)) (p : A × ℕ) (set n : ℕ) → Told ps set → Has set n → (n ≤ 63) × ((a : A) × Paired (ps ++ (p ∷ [])) n a × stands a x)
+  told_before ps p set n told h =
+      let (few, (a, paired, reads)) = (told n).0 h in
+      (few, (a, (paired_push ps p n a).1 (inl paired), reads))
 
-  module _ (seen : List (Node A)) (c : A) (f : Found) (room : f.atoms < 63) (s : Sees stands x seen f) where
-    here : f.atoms ≡ 0 + length (atoms_of seen)
-    here = let k = s.counted in omega arith
+  told_more : (ps : List (A × ℕ)) (p : A × ℕ) (set : ℕ) (b : Bool) → Told ps set → Decides b (stands p.0 x) → Told (ps ++ (p ∷ [])) (bit_or set (guarded b (singleton p.1)))
+  told_more ps p set true told decided n = (
+    λ h. elim (has_or set (singleton p.1) n h) [
+      | inl k ↦ told_before ps p set n told k
+      | inr k ↦
+          let (below, e) = has_singleton p.1 n k in
+          (omega (arith, below, e), (p.0, (paired_push ps p n p.0).1 (inr (refl, sym e)), decided))
+    ],
+    λ (few, (a, paired, reads)). elim ((paired_push ps p n a).0 paired) [
+      | inl k ↦ has_or_l set (singleton p.1) n ((told n).1 (few, (a, k, reads)))
+      | inr k ↦ has_or_r set (singleton p.1) n (subst (Has (singleton p.1)) k.1 (single_has p.1 (let e = k.1 in omega arith)))
+    ],
+  )
+  told_more ps p set false told differs n = (
+    λ h. elim (has_or set 0 n h) [ inl k ↦ told_before ps p set n told k | inr k ↦ absurd (has_none n k) ],
+    λ (few, (a, paired, reads)). elim ((paired_push ps p n a).0 paired) [
+      | inl k ↦ has_or_l set 0 n ((told n).1 (few, (a, k, reads)))
+      | inr k ↦ absurd (differs (subst (λ c. stands c x) (sym k.0) reads))
+    ],
+  )
 
-    counted_more : f.atoms + 1 ≡ min 63 (length (atoms_of (seen ++ (node.Atom c ∷ []))))
-    counted_more =
-        (let len = length-append (atoms_of seen) (c ∷ []) in let k = here in let m : f.atoms + 1 ≡ min 63 (length (atoms_of seen ++ (c ∷ []))) = omega arith in m)
-        ∙ ap (λ ds. min 63 (length ds)) (sym (atoms_of_push seen (node.Atom c)))
+  pub told_step : (ps : List (A × ℕ)) (p : A × ℕ) (set : ℕ) (b : Bool) (single chosen made : ℕ) → Told ps set → Decides b (stands p.0 x) → single ≡ singleton p.1 → chosen ≡ guarded b single → made ≡ bit_or set chosen → Told (ps ++ (p ∷ [])) made
+  told_step ps p set b single chosen made told decided one when or =
+      subst (Told (ps ++ (p ∷ []))) (sym (or ∙ ap (bit_or set) (when ∙ ap (guarded b) one))) (told_more ps p set b told decided)
 
-    pub sees_reader : stands c x → Sees stands x (seen ++ (node.Atom c ∷ [])) (record { atoms = f.atoms + 1; set = bit_or f.set (singleton (f.atoms + 1)) })
-    sees_reader reads =
-        let cs = atoms_of seen in
-        let m = f.atoms + 1 in
-        let low : m < 64 = omega arith in
-        record {
-          counted = counted_more;
-          reading = subst (λ ds. Told ds (bit_or f.set (singleton m))) (sym (atoms_of_push seen (node.Atom c))) λ n. (
-            λ h. elim (has_or f.set (singleton m) n h) [
-              | inl k ↦ let t = (s.reading n).0 k in (t.0, (t.1.0, (numbered_append cs (c ∷ []) 0 n t.1.0).1 (inl t.1.1), t.1.2))
-              | inr k ↦
-                  let e = has_single m n low k in
-                  let p = here in
-                  (omega arith, (c, (numbered_append cs (c ∷ []) 0 n c).1 (inr (inl (omega arith, refl))), reads))
-            ],
-            λ h. elim ((numbered_append cs (c ∷ []) 0 n h.1.0).0 h.1.1) [
-              | inl k ↦ has_or_l f.set (singleton m) n ((s.reading n).1 (h.0, (h.1.0, k, h.1.2)))
-              | inr k ↦ elim k [
-                | inl p ↦
-                    let q = p.0 in
-                    let r = here in
-                    let e : m ≡ n = omega arith in
-                    has_or_r f.set (singleton m) n (subst (Has (singleton m)) e (single_has m low))
-                | inr p ↦ absurd p
-              ]
-            ],
-          );
-        }
+  -- What a fold over the pairs answers, where each turn adds the pair's number if its atom reads the letter.
+  pub told_fold : {S A' F : Type 0} {steps : S → Option A' → S → Type 0} {v : A' → A × ℕ} {g : Mut F (ℕ × (A' × Unit {0})) ℕ} {f : F} {s : S} {all : List (A × ℕ)} (r : ℕ) → (xs : List A') × (f' : F) × Drains steps s xs × FoldsTo {P = F × ℕ} (λ p x q. Called g p.0 (p.1, (x, tt)) q.1 q.0) (f, 0) xs (f', r) → YieldsList steps v s all → ((ps : List (A × ℕ)) (set : ℕ) (p : A') (made : ℕ) (f' : F) → Told ps set → Called g f (set, (p, tt)) made f' → Told (ps ++ (v p ∷ [])) made × (f' ≡ f)) → Told all r
+  told_fold {steps = steps} {v = v} {g = g} {f = f} {s = s} {all = all} r ran chain step = fold_over steps v g Told f step s all 0 r chain.runs told_none ran
 
-    pub sees_other : (stands c x → ⊥) → Sees stands x (seen ++ (node.Atom c ∷ [])) (record { atoms = f.atoms + 1; set = f.set })
-    sees_other differs =
-        let cs = atoms_of seen in
-        record {
-          counted = counted_more;
-          reading = subst (λ ds. Told ds f.set) (sym (atoms_of_push seen (node.Atom c))) λ n. (
-            λ h. let t = (s.reading n).0 h in (t.0, (t.1.0, (numbered_append cs (c ∷ []) 0 n t.1.0).1 (inl t.1.1), t.1.2)),
-            λ h. elim ((numbered_append cs (c ∷ []) 0 n h.1.0).0 h.1.1) [
-              | inl k ↦ (s.reading n).1 (h.0, (h.1.0, k, h.1.2))
-              | inr k ↦ elim k [
-                | inl p ↦ absurd (differs (subst (λ d. stands d x) (sym p.1) h.1.2))
-                | inr p ↦ absurd p
-              ]
-            ],
-          );
-        }
+  pub told_readers : (nodes : List (Node A)) (set : ℕ) → Told (zip (filter_map atom_in nodes) (range_with_len 1 63)) set → Readers stands nodes x set
+  told_readers nodes set told n = (
+    λ h.
+        let (few, (a, paired, reads)) = (told n).0 h in
+        (few, (a, subst (λ cs. Numbered cs 0 n a) (atoms_found nodes) ((paired_numbered (filter_map atom_in nodes) 0 63 n a).0 paired).1, reads)),
+    λ (few, (a, numbered, reads)). (told n).1 (few, (a, (paired_numbered (filter_map atom_in nodes) 0 63 n a).1 (few, subst (λ cs. Numbered cs 0 n a) (sym (atoms_found nodes)) numbered), reads)),
+  )

@@ -1,9 +1,19 @@
 -- Which atom of a node table has which number, and which of them read a letter.
-use Rattle.std.specs.Prelude.{◌≡◌, ℕ, ◌+◌, ◌≤◌, min, ◌⊎◌, List, [], ◌∷◌, ◌++◌, length}
+use Rattle.std.specs.Prelude.{◌≡◌, ℕ, ◌+◌, ◌≤◌, ◌⊎◌, List, [], ◌∷◌, ◌++◌, Some, None, Option}
 use Rattle.bits.specs.Sets.{Has}
 use Rattle.models.specs.declared.node.Node.{Node}
 use Rattle.models.specs.declared.node.Node.TheVariants as node
-use Rattle.models.specs.declared.reading.Found.{Found}
+
+-- The atom that a node is, if it is one.
+abbrev pub atom_in : {A : Type 0} → Node A → Option A
+atom_in node.Unused = None
+atom_in node.Empty = None
+atom_in (node.Atom a) = Some a
+atom_in node.Seq = None
+atom_in node.Alt = None
+atom_in node.Star = None
+atom_in node.Plus = None
+atom_in node.Opt = None
 
 abbrev pub atom_of : {A : Type 0} → Node A → List A
 atom_of node.Unused = []
@@ -32,8 +42,3 @@ ReadBy {A} stands nodes x n = (n ≤ 63) × ((a : A) × Numbered (atoms_of nodes
 -- The set holds exactly the numbers of the atoms that read the letter.
 abbrev pub Readers : {A X : Type 0} → (A → X → Type 0) → List (Node A) → X → ℕ → Type 0
 Readers stands nodes x set = (n : ℕ) → (Has set n → ReadBy stands nodes x n) × (ReadBy stands nodes x n → Has set n)
-
--- What was found in the nodes so far: how many of the first 63 atoms there are, and which read the letter.
-pub record Sees {A X : Type 0} (stands : A → X → Type 0) (x : X) (nodes : List (Node A)) (found : Found) : Type 0 where
-  pub counted : found.atoms ≡ min 63 (length (atoms_of nodes))
-  pub reading : Readers stands nodes x found.set

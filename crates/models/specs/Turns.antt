@@ -1,7 +1,6 @@
 -- The turns of a fold, one for each node, on a stack of values.
-use Rattle.std.specs.Prelude.{◌≡◌, ℕ, zero, suc, ◌+◌, ◌-◌, ◌<◌, ◌≤◌, true, false, List, [], ◌∷◌, length, Some, None, Option, nat_lt, slice_index_or}
+use Rattle.std.specs.Prelude.{◌≡◌, ℕ, ◌+◌, true, false, List, [], ◌∷◌, length, take, reverse, Some, None, Option, nat_lt}
 use Rattle.models.specs.Folds.{Operations}
-use Rattle.models.specs.declared.evaluation.Reached.{Reached}
 use Rattle.models.specs.declared.node.Node.{Node}
 use Rattle.models.specs.declared.node.Node.TheVariants as node
 
@@ -35,31 +34,12 @@ turned o room node.Star s = changed o.any s.0 s.1
 turned o room node.Plus s = changed o.some s.0 s.1
 turned o room node.Opt s = changed o.maybe s.0 s.1
 
--- The first `height` places of a slice as a stack, the last of them on top.
-abbrev pub tops : {V : Type 0} → V → List V → ℕ → List V
-tops d work zero = []
-tops d work (suc height) = slice_index_or work height d ∷ tops d work height
+-- The values in the first `height` places of a slice, the last of them on top.
+abbrev pub held : {V : Type 0} → List V → ℕ → List V
+held places height = reverse (take height places)
 
-abbrev pub stack : {V : Type 0} → V → List V → Reached → Stack V
-stack d work r = (tops d work r.height, r.atoms)
-
--- What a turn on the slice answers: none where there is no turn, else the new height and count, which
--- the slice then fits.
-abbrev pub Takes : {V : Type 0} → V → Option (Stack V) → List V → Option Reached → Type 0
-Takes d turn work None = turn ≡ None
-Takes d turn work (Some r) = (turn ≡ Some (stack d work r)) × (r.height ≤ length work)
-
--- Something is answered exactly when there are `wanted` values.
-abbrev pub Enough : {V : Type 0} → ℕ → ℕ → Option V → Type 0
-Enough wanted height None = height < wanted
-Enough wanted height (Some v) = wanted ≤ height
-
--- The value on top of the first `height` places.
-abbrev pub Top : {V : Type 0} → V → List V → ℕ → Option V → Type 0
-Top d work height None = Unit {0}
-Top d work height (Some v) = tops d work height ≡ v ∷ tops d work (height - 1)
-
--- The two values on top.
-abbrev pub TopTwo : {V : Type 0} → V → List V → ℕ → Option (V × V) → Type 0
-TopTwo d work height None = Unit {0}
-TopTwo d work height (Some two) = tops d work height ≡ two.1 ∷ (two.0 ∷ tops d work (height - 2))
+-- What a turn on the places answers: none where there is no turn, else how many atoms were met; the
+-- values are then those of the turn.
+abbrev pub Turns : {V : Type 0} → Option (Stack V) → List V → Option ℕ → Type 0
+Turns turn values None = turn ≡ None
+Turns turn values (Some atoms) = turn ≡ Some (values, atoms)

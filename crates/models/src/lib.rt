@@ -6,6 +6,7 @@ mod algebra;
 mod evaluation;
 mod node;
 mod reading;
+mod stack;
 mod tables;
 
 pub use algebra::Algebra;
