@@ -8,8 +8,8 @@ mod speed;
 
 use derivative::Derivatives;
 use engine::{ContentAtom, Engine, Letter, match_word};
-use models::{Model, Node};
-use positions::{BlankColumns, BlankTable, ContentTable, FollowTable};
+use models::{Model, Node, Tables};
+use positions::{BlankColumnTable, BlankTable, ContentTable, FollowTable};
 use samples::{LETTERS, LONGEST, Sample, WEEK_MODELS, WEEK_NODES, write_sequence, write_star};
 use speed::{speed, steps_made};
 use std::{env, io};
@@ -64,19 +64,17 @@ fn print_samples<'n, 'm, 'r, 'a, 's, 'b, 'c>(
 // Fills the tables of the models, and runs the words.
 fn run<'n, 'm, 'r, 'a, 's, 'b, 'c>(
     rt: &HostRuntime,
-    nodes: &'n [Node<ContentAtom>],
-    models: &'m [Model],
+    tables: Tables<'n, 'm, ContentAtom>,
     blank: &mut BlankTable<'r, 'a, Letter>,
-    sorted: &mut BlankTable<'s, 'b, Letter>,
-    columns: &mut BlankColumns<'c>,
+    sorted: &mut BlankColumnTable<'s, 'b, 'c, Letter>,
     samples: &[Sample],
     timed: bool,
 ) -> io::Result<()> {
-    let slow: Derivatives<'n, 'm, Letter> = Derivatives::over(nodes, models);
+    let slow: Derivatives<'n, 'm, Letter> = Derivatives::over(tables);
     let mut rows: FollowTable<'n, 'm, 'r, 'a, Letter> = FollowTable::empty();
     let mut table: ContentTable<'n, 'm, 's, 'b, 'c> = ContentTable::empty();
-    let filled = rows.fill(nodes, models, blank).is_ok();
-    let sorted = table.fill(nodes, models, sorted, columns).is_ok();
+    let filled = rows.fill(tables, blank).is_ok();
+    let sorted = table.fill(tables, sorted).is_ok();
     println!(rt; "tables filled: {filled} {sorted}")?;
     print_samples(rt, &slow, &rows, &table, samples, timed)
 }
@@ -97,24 +95,15 @@ fn compare(
     };
     let mut more_rows = [0; PLACES];
     let mut more_atoms = [Node::Unused; PLACES];
-    let mut sorted = BlankTable {
-        rows: &mut more_rows,
-        atoms: &mut more_atoms,
-    };
     let mut columns = [0; PLACES];
-    let mut columns = BlankColumns {
+    let mut sorted = BlankColumnTable {
+        table: BlankTable {
+            rows: &mut more_rows,
+            atoms: &mut more_atoms,
+        },
         columns: &mut columns,
     };
-    run(
-        rt,
-        nodes,
-        models,
-        &mut blank,
-        &mut sorted,
-        &mut columns,
-        samples,
-        timed,
-    )
+    run(rt, Tables { nodes, models }, &mut blank, &mut sorted, samples, timed)
 }
 
 // The star of an alternative of so many elements, and their sequence.

@@ -4,7 +4,7 @@
 
 use derivative::Derivatives;
 use engine::{ByteRange, ContentAtom, Letter, match_word};
-use models::{Model, Node};
+use models::{Model, Node, Tables};
 use positions::{BlankTable, FollowTable};
 use sealing::{first_ambiguous, first_without_tree};
 use std::io;
@@ -25,13 +25,12 @@ const SHEET: [Node<ContentAtom>; 9] = [
 // What both engines say of a content word.
 fn content<'n, 'm, 'r, 'a>(
     rt: &HostRuntime,
-    nodes: &'n [Node<ContentAtom>],
-    models: &'m [Model],
+    tables: Tables<'n, 'm, ContentAtom>,
     fast: &mut FollowTable<'n, 'm, 'r, 'a, Letter>,
     blank: &mut BlankTable<'r, 'a, Letter>,
 ) -> io::Result<()> {
-    let slow: Derivatives<'n, 'm, Letter> = Derivatives::over(nodes, models);
-    let filled = fast.fill(nodes, models, blank).is_ok();
+    let slow: Derivatives<'n, 'm, Letter> = Derivatives::over(tables);
+    let filled = fast.fill(tables, blank).is_ok();
     println!(rt; "table filled: {filled}")?;
     let whole = [
         Letter::Element(2),
@@ -51,13 +50,12 @@ fn content<'n, 'm, 'r, 'a>(
 // What both engines say of a value.
 fn value<'n, 'm, 'r, 'a>(
     rt: &HostRuntime,
-    nodes: &'n [Node<ByteRange>],
-    models: &'m [Model],
+    tables: Tables<'n, 'm, ByteRange>,
     fast: &mut FollowTable<'n, 'm, 'r, 'a, u8>,
     blank: &mut BlankTable<'r, 'a, u8>,
 ) -> io::Result<()> {
-    let slow: Derivatives<'n, 'm, u8> = Derivatives::over(nodes, models);
-    let filled = fast.fill(nodes, models, blank).is_ok();
+    let slow: Derivatives<'n, 'm, u8> = Derivatives::over(tables);
+    let filled = fast.fill(tables, blank).is_ok();
     println!(rt; "table filled: {filled}")?;
     let a = match_word(&slow, 1, b"7.50");
     let b = match_word(&*fast, 1, b"7.50");
@@ -88,7 +86,11 @@ fn hours(rt: &HostRuntime, digit: ByteRange, point: ByteRange) -> io::Result<()>
         rows: &mut rows,
         atoms: &mut atoms,
     };
-    value(rt, &nodes, &models, &mut fast, &mut blank)
+    let tables = Tables {
+        nodes: &nodes,
+        models: &models,
+    };
+    value(rt, tables, &mut fast, &mut blank)
 }
 
 fn main(rt: HostRuntime) -> io::Result<()> {
@@ -100,9 +102,13 @@ fn main(rt: HostRuntime) -> io::Result<()> {
         rows: &mut rows,
         atoms: &mut atoms,
     };
-    content(&rt, &SHEET, &models, &mut fast, &mut blank)?;
-    let ambiguous = first_ambiguous(&SHEET, &models).is_some();
-    let treeless = first_without_tree(&SHEET, &models).is_some();
+    let tables = Tables {
+        nodes: &SHEET,
+        models: &models,
+    };
+    content(&rt, tables, &mut fast, &mut blank)?;
+    let ambiguous = first_ambiguous(tables).is_some();
+    let treeless = first_without_tree(tables).is_some();
     println!(rt; "ambiguous: {ambiguous}, without a tree: {treeless}")?;
     match ByteRange::new(48, 57) {
         None => Ok(()),
