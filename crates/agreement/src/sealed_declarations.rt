@@ -18,6 +18,6 @@ pub struct SealedDeclarations<'t, 'n, 'm, 'e> {
     entries: &'e [Entry],
     tables: Sealed<'n, 'm>,
     ghost named: { entries.now ≡ entries_of text.now (declarations text.now) },
-    ghost coded: { ∥ tables.nodes.now ≡ filled Unused (length tables.nodes.now) (all_code (text_models text.now)) ∥₁ },
-    ghost placed: { ∥ tables.models.now ≡ runs_from 0 (text_models text.now) ∥₁ },
+    ghost coded: { ∥ tables.engine.tables.nodes.now ≡ filled Unused (length tables.engine.tables.nodes.now) (all_code (text_models text.now)) ∥₁ },
+    ghost placed: { ∥ tables.engine.tables.models.now ≡ runs_from 0 (text_models text.now) ∥₁ },
 }

@@ -103,7 +103,14 @@ fn compare(
         },
         columns: &mut columns,
     };
-    run(rt, Tables { nodes, models }, &mut blank, &mut sorted, samples, timed)
+    run(
+        rt,
+        Tables { nodes, models },
+        &mut blank,
+        &mut sorted,
+        samples,
+        timed,
+    )
 }
 
 // The star of an alternative of so many elements, and their sequence.

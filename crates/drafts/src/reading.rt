@@ -8,7 +8,7 @@ use super::note::note;
 use super::refusal::{Question, Refusal};
 use super::write::write_models;
 use engine::ContentAtom;
-use models::{Model, Node, clear};
+use models::{Model, Node};
 use scan::Entry;
 
 // The most bytes that a text may have.
@@ -101,16 +101,16 @@ pub fn read_into(
 ) -> Result<usize, Refusal>
     ensures { ReadInto text.now nodes.old models.old entries.old nodes.new models.new entries.new result }
 {
-    clear(nodes, Node::Unused);
-    clear(models, ZERO_MODEL);
-    clear(entries, ZERO_ENTRY);
+    nodes.fill(Node::Unused);
+    models.fill(ZERO_MODEL);
+    entries.fill(ZERO_ENTRY);
     match ask_text(text, entries, nodes.len(), models.len()) {
         Ok(count) => {
             write_models(text, &entries[0..count], nodes, models);
             Ok(count)
         }
         Err(refusal) => {
-            clear(entries, ZERO_ENTRY);
+            entries.fill(ZERO_ENTRY);
             Err(refusal)
         }
     }

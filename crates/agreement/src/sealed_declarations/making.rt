@@ -7,6 +7,7 @@ use super::super::places::refuse;
 use super::SealedDeclarations;
 use drafts::{Draft, Refusal};
 use engine::Engine;
+use models::Tables;
 use sealed::Sealed;
 
 impl<'t, 'n, 'm, 'e> SealedDeclarations<'t, 'n, 'm, 'e> {
@@ -29,7 +30,11 @@ impl<'t, 'n, 'm, 'e> SealedDeclarations<'t, 'n, 'm, 'e> {
         ensures languages { OnOk result (SpeaksText draft.old.text.now (⟦<Sealed<'n, 'm> as Engine>⟧.language self.new.tables)) }
     {
         let mut tables = Sealed::empty();
-        if let Err(why) = tables.fill(draft.nodes(), draft.models()) {
+        let drafted = Tables {
+            nodes: draft.nodes(),
+            models: draft.models(),
+        };
+        if let Err(why) = tables.fill(drafted) {
             return Err(refuse(draft.entries(), why));
         }
         *self = SealedDeclarations {

@@ -38,7 +38,7 @@ impl<L: Alphabet> Engine for FollowTable<'_, '_, '_, '_, L> {
     }
 
     fn ends(&self, number: u8, state: u64) -> bool {
-        base_of(self.tables.models, number)
-            .is_some_and(|base| union_of(self.rows, base, state) % 2 == 1)
+        base_of(self.tables.models, number).is_some_and(|base| union_of(self.rows, base, state) % 2
+            == 1)
     }
 }
