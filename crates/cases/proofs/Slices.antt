@@ -3,16 +3,16 @@ use Rattle.std.proofs.Common.{◌≡◌, ℕ, ◌+◌, ◌-◌, min, List, [], �
 use lib.ListN.{length-map}
 use Rattle.engine.specs.Languages.{Language}
 use Rattle.engine.specs.declared.alphabet.Letter.{Letter}
+use Rattle.calls.specs.Replies.{Reply, accepted, refused, pass, shown}
 use Rattle.sheet.specs.Histories as histories
 use Rattle.sheet.specs.Histories.{keep}
-use Rattle.sheet.specs.Replies.{Reply, accepted, refused, pass, shown}
 use Rattle.sheet.specs.Runs.{turns}
 use Rattle.sheet.specs.Said.{sent}
 use Rattle.sheet.specs.Theorem.{RightAfter, RightThroughout, Judged}
-use Rattle.sheet.specs.declared.answer.Answer.{Answer}
-use Rattle.sheet.specs.declared.answer.Answer.TheVariants.{Accepted, Refused, Passed}
-use Rattle.sheet.specs.declared.answer.Refusal.TheVariants.{NotFresh, RootUndeclared, ValueNotPlain, NotUnderway, NotKnown, Offending, TooDeep, TooMany, RootOpen}
-use Rattle.sheet.specs.declared.call.Call.{Call}
+use Rattle.calls.specs.declared.answer.Answer.{Answer}
+use Rattle.calls.specs.declared.answer.Answer.TheVariants.{Accepted, Refused, Passed}
+use Rattle.calls.specs.declared.answer.Refusal.TheVariants.{NotFresh, RootUndeclared, ValueNotPlain, NotUnderway, NotKnown, Offending, TooDeep, TooMany, RootOpen}
+use Rattle.calls.specs.declared.call.Call.{Call}
 use Rattle.sheet.proofs.Judging.{same_reply}
 use Rattle.cases.specs.Answers.{history, Answered, laid}
 

@@ -2,10 +2,10 @@
 use Rattle.std.specs.Prelude.{◌≡◌, ℕ, List, [], ◌∷◌, ◌++◌, length, take, drop}
 use Rattle.engine.specs.Languages.{Language}
 use Rattle.engine.specs.declared.alphabet.Letter.{Letter}
+use Rattle.calls.specs.Replies.{shown}
 use Rattle.sheet.specs.Histories.{Call, Turn}
-use Rattle.sheet.specs.Replies.{shown}
 use Rattle.sheet.specs.Theorem.{RightThroughout}
-use Rattle.sheet.specs.declared.answer.Answer.{Answer}
+use Rattle.calls.specs.declared.answer.Answer.{Answer}
 
 -- Each call with its answer, as far as both lists go.
 abbrev pub history : List Call → List Answer → List Turn

@@ -5,9 +5,9 @@ use Rattle.bakery.specs.Contents.{Holds}
 use Rattle.bakery.specs.Values.{Reads}
 use Rattle.bakery.specs.Week.{week_events}
 use Rattle.sheet.specs.Histories.{Call, begin, finish}
-use Rattle.sheet.specs.declared.answer.Answer.{Answer}
-use Rattle.sheet.specs.declared.answer.Answer.TheVariants.{Accepted, Refused, Passed}
-use Rattle.sheet.specs.declared.answer.Refusal.TheVariants.{Offending, RootOpen}
+use Rattle.calls.specs.declared.answer.Answer.{Answer}
+use Rattle.calls.specs.declared.answer.Answer.TheVariants.{Accepted, Refused, Passed}
+use Rattle.calls.specs.declared.answer.Refusal.TheVariants.{Offending, RootOpen}
 use Rattle.cases.specs.Answers.{Answered}
 use Rattle.cases.specs.Histories.{sends}
 

@@ -8,14 +8,16 @@ use Rattle.engine.specs.Trees.{none, letters, joined, Declared, IsByte, IsKnown,
 use Rattle.engine.specs.declared.alphabet.Letter.{Letter}
 use Rattle.engine.specs.declared.alphabet.Letter.TheVariants.{Text, Element}
 use Rattle.engine.proofs.Advancing.{decides_iff}
-use Rattle.sheet.specs.Asks.{Completes}
-use Rattle.sheet.specs.Expect.{Welcome, ExpectedNext, ValueGoesOn, TextGoesOn}
+use Rattle.frames.specs.Agreements.{Agreed}
+use Rattle.frames.specs.Next.{ValueGoesOn, TextGoesOn, ChildGoesOn}
+use Rattle.frames.specs.Asks.{Completes}
+use Rattle.sheet.specs.Expect.{Welcome, ExpectedNext}
 use Rattle.sheet.specs.Histories.{Call}
-use Rattle.sheet.specs.Levels.{Level, opened, Agreed}
+use Rattle.sheet.specs.Levels.{Level, opened}
 use Rattle.sheet.specs.Questions.{Admitted, BeginsDocument, HasByte, Underway}
 use Rattle.sheet.specs.Stands.{Reads, ReadsValue, StandsAt, Stands}
 use Rattle.sheet.specs.States.{no_frame}
-use Rattle.sheet.specs.declared.state.Frame.{Frame}
+use Rattle.frames.specs.declared.frame.Frame.{Frame}
 use Rattle.sheet.specs.declared.state.State.{State}
 use Rattle.sheet.specs.declared.state.Phase.TheVariants as phase
 use Rattle.sheet.proofs.Completion.{completes, alive_root}
@@ -137,8 +139,7 @@ module _ (C : ℕ → Language Letter) (CR : ℕ → ℕ → Language Letter) (V
               subst (λ n. ValueGoesOn (VR n) f.value) (sym inner_reads.number) (first_byte f.value b bs inner_reads.value value),
             )
 
-    start_welcome : (n : ℕ) → (Inhabited (residue (CR f.number f.content) (Element n ∷ [])) → Welcome C V calls (start n))
-        × (Welcome C V calls (start n) → Inhabited (residue (CR f.number f.content) (Element n ∷ [])))
+    start_welcome : (n : ℕ) → (ChildGoesOn CR f n → Welcome C V calls (start n)) × (Welcome C V calls (start n) → ChildGoesOn CR f n)
     start_welcome n = (
       (λ (w, h).
           let c = (reads_after C CR V VR f in_level (Element n) inner_reads w).0 h in
@@ -160,11 +161,10 @@ module _ (C : ℕ → Language Letter) (CR : ℕ → ℕ → Language Letter) (V
           (reads_end C CR V VR f in_level inner_reads).1 (record { content = content; value = value }),
     )
 
-    pub expects_inside : (set children : ℕ) (text-next end-next : Bool) → Decides text-next (TextGoesOn CR VR f) → has set 0 ≡ text-next →
-        ((n : ℕ) → 1 ≤ n → n ≤ 63 → Decides (has children n) (Inhabited (residue (CR f.number f.content) (Element n ∷ [])))) →
-        ((q : ℕ) → (q ≡ 0 → ⊥) → has set q ≡ has children q) → Decides end-next (Completes CR VR f) → ExpectedNext C V calls set end-next
-    expects_inside set children text-next end-next texts zeroth starts others ends = record {
-      texts = subst (λ b. Decides b ((w : List ℕ) × Welcome C V calls (text w))) (sym zeroth) (decides_iff text-next text_welcome texts);
-      starts = λ n low high. subst (λ b. Decides b (Welcome C V calls (start n))) (sym (others n (λ e. omega arith))) (decides_iff (has children n) (start_welcome n) (starts n low high));
+    pub expects_inside : (set : ℕ) (end-next : Bool) → Decides (has set 0) (TextGoesOn CR VR f) → ((n : ℕ) → 1 ≤ n → n ≤ 63 → Decides (has set n) (ChildGoesOn CR f n)) →
+        Decides end-next (Completes CR VR f) → ExpectedNext C V calls set end-next
+    expects_inside set end-next texts starts ends = record {
+      texts = decides_iff (has set 0) text_welcome texts;
+      starts = λ n low high. decides_iff (has set n) (start_welcome n) (starts n low high);
       ends = decides_iff end-next end_welcome ends;
     }

@@ -4,11 +4,11 @@ use Rattle.engine.specs.Languages.{Language, Empty, Inhabited, Same, residue, An
 use Rattle.engine.specs.Trees.{Forest, none, piece, child, letters, joined, Fits}
 use Rattle.engine.specs.declared.alphabet.Letter.{Letter}
 use Rattle.engine.specs.declared.alphabet.Letter.TheVariants.{Text, Element}
-use Rattle.sheet.specs.Asks.{OpensFrame, ReadsLetter, ReadsText, AdvancesValue, NoValue, ValueEnds, Completes}
+use Rattle.frames.specs.Asks.{OpensFrame, ReadsLetter, ReadsText, AdvancesValue, NoValue, ValueEnds, Completes}
 use Rattle.sheet.specs.Levels.{Level}
 use Rattle.sheet.specs.Stands.{Reads, ReadsValue, Held}
 use Rattle.sheet.specs.States.{no_frame}
-use Rattle.sheet.specs.declared.state.Frame.{Frame}
+use Rattle.frames.specs.declared.frame.Frame.{Frame}
 use Rattle.sheet.proofs.Forests.{join, letters_join, joined_join}
 
 module _ (C : ℕ → Language Letter) (CR : ℕ → ℕ → Language Letter) (V : ℕ → Language ℕ) (VR : ℕ → ℕ → Language ℕ) where

@@ -3,14 +3,14 @@ use Rattle.std.proofs.Common.{◌≡◌, ℕ, zero, suc, ◌+◌, ◌<◌, min, 
 use Rattle.std.proofs.lemmas.List.{take_more, take_more_set}
 use Rattle.engine.specs.Languages.{Language}
 use Rattle.engine.specs.declared.alphabet.Letter.{Letter}
+use Rattle.calls.specs.Replies.{shown}
 use Rattle.sheet.specs.Histories.{Turn, kept}
-use Rattle.sheet.specs.Replies.{shown}
 use Rattle.sheet.specs.Runs.{turns}
 use Rattle.sheet.specs.Said.{sent}
 use Rattle.sheet.specs.Stands.{Stands, Moves}
 use Rattle.sheet.specs.Theorem.{RightThroughout}
-use Rattle.sheet.specs.declared.answer.Answer.{Answer}
-use Rattle.sheet.specs.declared.call.Call.{Call}
+use Rattle.calls.specs.declared.answer.Answer.{Answer}
+use Rattle.calls.specs.declared.call.Call.{Call}
 use Rattle.sheet.specs.declared.state.State.{State}
 use Rattle.sheet.proofs.Calls.{kept_after_push, right_push}
 

@@ -4,17 +4,17 @@ use mathlib.Core.Path.{subst₃}
 use Rattle.std.proofs.lemmas.List.{length_push, take_all, take-append-le, take_more, take_more_set}
 use Rattle.engine.specs.Languages.{Language}
 use Rattle.engine.specs.declared.alphabet.Letter.{Letter}
+use Rattle.calls.specs.Replies.{Reply, accepted, refused, pass, shown, IsRefused}
 use Rattle.sheet.specs.Histories as histories
-use Rattle.sheet.specs.Histories.{IsRefused, Turn, keep, kept}
+use Rattle.sheet.specs.Histories.{Turn, keep, kept}
 use Rattle.sheet.specs.Questions.{Right}
-use Rattle.sheet.specs.Replies.{Reply, accepted, refused, pass, shown}
 use Rattle.sheet.specs.Runs.{grants, Repeated, turns}
 use Rattle.sheet.specs.Said.{sent}
 use Rattle.sheet.specs.Stands.{Stands, Moves}
 use Rattle.sheet.specs.Theorem.{RightThroughout, StandsIn}
-use Rattle.sheet.specs.declared.answer.Answer.{Answer}
-use Rattle.sheet.specs.declared.answer.Answer.TheVariants.{Accepted, Refused, Passed}
-use Rattle.sheet.specs.declared.call.Call.{Call}
+use Rattle.calls.specs.declared.answer.Answer.{Answer}
+use Rattle.calls.specs.declared.answer.Answer.TheVariants.{Accepted, Refused, Passed}
+use Rattle.calls.specs.declared.call.Call.{Call}
 use Rattle.sheet.specs.declared.state.State.{State}
 use Rattle.sheet.proofs.Calls.{kept_after_push, right_at}
 use Rattle.sheet.proofs.Judging.{same_reply}

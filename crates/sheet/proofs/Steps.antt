@@ -5,16 +5,17 @@ use Rattle.engine.specs.Languages.{Language, Empty, Inhabited, residue, Each}
 use Rattle.engine.specs.Trees.{Forest, none, piece, child, letters, joined, Fits, Valid, Declared, IsByte, Event, start, text, end, traversal}
 use Rattle.engine.specs.declared.alphabet.Letter.{Letter}
 use Rattle.engine.specs.declared.alphabet.Letter.TheVariants.{Text, Element}
-use Rattle.sheet.specs.Asks.{OpensFrame, ReadsLetter, ReadsText, Completes}
+use Rattle.calls.specs.Replies.{Reply, accepted, refused, pass, number}
+use Rattle.frames.specs.Agreements.{Agreed, Agrees}
+use Rattle.frames.specs.Asks.{OpensFrame, ReadsLetter, ReadsText, Completes}
 use Rattle.sheet.specs.Histories.{Call, begin, send, finish, root, events, passed, starts, ends}
-use Rattle.sheet.specs.Levels.{Level, opened, Outermost, Alive, Agreed}
+use Rattle.sheet.specs.Levels.{Level, opened, Outermost, Alive}
 use Rattle.sheet.specs.Questions.{BeginsDocument, IsDocument, HasByte, Known, Underway, ValuesPlain, number_or_0, Admitted, Right}
-use Rattle.sheet.specs.Replies.{Reply, accepted, refused, pass, number}
 use Rattle.sheet.specs.Said.{Unwelcome}
-use Rattle.sheet.specs.Stands.{AgreesAt, Reads, Held, Tallied, Within, StandsAt, Stands}
+use Rattle.sheet.specs.Stands.{Reads, Held, Tallied, Within, StandsAt, Stands}
 use Rattle.sheet.specs.States.{no_frame, applied, phase_at}
-use Rattle.sheet.specs.declared.answer.Refusal.{Refusal}
-use Rattle.sheet.specs.declared.state.Frame.{Frame}
+use Rattle.calls.specs.declared.answer.Refusal.{Refusal}
+use Rattle.frames.specs.declared.frame.Frame.{Frame}
 use Rattle.sheet.specs.declared.state.State.{State}
 use Rattle.sheet.specs.declared.state.Phase.{Phase}
 use Rattle.sheet.specs.declared.state.Phase.TheVariants as phase
@@ -197,9 +198,12 @@ module _ (C : ℕ → Language Letter) (CR : ℕ → ℕ → Language Letter) (V
         ),
       )
 
-  -- What was found of every number from 1 to 63 is what is agreed.
-  pub agreed_all : ((n : ℕ) → 1 ≤ n → n ≤ 63 → AgreesAt C CR V VR n true) → Agreed C V
-  agreed_all h = record { law = (h 1 (omega arith) (omega arith)).0; values = λ n low high. (h n low high).1; bytes = λ n low high. (h n low high).2 }
+  -- A begin over engines that do not agree.
+  pub begin_unplain : (s : State) (calls : List Call) (n : ℕ) → s.phase ≡ phase.Fresh → Declared C n → Agrees C V false → Stands C CR V VR s calls →
+      Right C V calls (begin n) (refused 33)
+  begin_unplain s calls n is declared (m, low, high, valued, unplain) (size, st) =
+      let h = subst (λ p. StandsAt C CR V VR p s calls) is st in
+      inr (ap root h.0, inr (declared, inl ((λ plain. unplain (plain m low high valued)), refl)))
 
   -- A begin that is accepted.
   pub begin_right : (s : State) (calls : List Call) (n : ℕ) → s.phase ≡ phase.Fresh → Declared C n → Agreed C V → Stands C CR V VR s calls →

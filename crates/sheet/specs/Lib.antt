@@ -1,4 +1,3 @@
-pub mod Asks
 pub mod Expect
 pub mod Histories
 pub mod Levels

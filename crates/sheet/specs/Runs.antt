@@ -1,11 +1,11 @@
 -- Recorded runs: the history that a list of calls and a list of answers make, and the answers that were no refusals.
 use Rattle.std.specs.Prelude.{◌≡◌, ℕ, min, List, [], ◌∷◌, length, take, drop}
+use Rattle.calls.specs.Replies.{shown}
 use Rattle.sheet.specs.Histories.{Turn}
-use Rattle.sheet.specs.Replies.{shown}
 use Rattle.sheet.specs.Said.{sent}
-use Rattle.sheet.specs.declared.answer.Answer.{Answer}
-use Rattle.sheet.specs.declared.answer.Answer.TheVariants.{Accepted, Refused, Passed}
-use Rattle.sheet.specs.declared.call.Call.{Call}
+use Rattle.calls.specs.declared.answer.Answer.{Answer}
+use Rattle.calls.specs.declared.answer.Answer.TheVariants.{Accepted, Refused, Passed}
+use Rattle.calls.specs.declared.call.Call.{Call}
 
 -- Each call with its answer, as far as both lists go.
 abbrev pub turns : List Call → List Answer → List Turn

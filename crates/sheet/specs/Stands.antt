@@ -1,16 +1,17 @@
 -- What the state of a sheet stands for: the calls that were accepted so far.
-use Rattle.std.specs.Prelude.{◌≡◌, ℕ, suc, ◌≤◌, Bool, true, false, ◌⊎◌, List, [], ◌∷◌, ◌++◌, length, Some, None, Ok, Err, Option, Result, slice_index_or}
-use Rattle.engine.specs.Languages.{Language, Empty, Inhabited, Same, residue, Each}
-use Rattle.engine.specs.Trees.{letters, joined, Declared, Plain, Contents, IsByte, Event}
+use Rattle.std.specs.Prelude.{◌≡◌, ℕ, suc, ◌≤◌, true, false, List, [], ◌∷◌, ◌++◌, length, Some, None, Ok, Err, Option, Result, slice_index_or}
+use Rattle.engine.specs.Languages.{Language, Empty, Inhabited, Same, residue}
+use Rattle.engine.specs.Trees.{letters, joined, Declared, Event}
 use Rattle.engine.specs.declared.alphabet.Letter.{Letter}
 use Rattle.engine.specs.declared.alphabet.Letter.TheVariants.{Element}
+use Rattle.calls.specs.Replies.{Reply, accepted, refused, number}
+use Rattle.frames.specs.Agreements.{Agreed}
 use Rattle.sheet.specs.Histories.{Call, send, keep, root, events, passed}
-use Rattle.sheet.specs.Levels.{Level, opened, Outermost, Alive, Agreed}
-use Rattle.sheet.specs.Questions.{IsDocument, Right, ValuesPlain}
-use Rattle.sheet.specs.Replies.{Reply, accepted, refused, number}
+use Rattle.sheet.specs.Levels.{Level, opened, Outermost, Alive}
+use Rattle.sheet.specs.Questions.{IsDocument, Right}
 use Rattle.sheet.specs.States.{applied, no_frame, Fitting}
-use Rattle.sheet.specs.declared.answer.Refusal.{Refusal}
-use Rattle.sheet.specs.declared.state.Frame.{Frame}
+use Rattle.calls.specs.declared.answer.Refusal.{Refusal}
+use Rattle.frames.specs.declared.frame.Frame.{Frame}
 use Rattle.sheet.specs.declared.state.State.{State}
 use Rattle.sheet.specs.declared.state.Change.{Change}
 use Rattle.sheet.specs.declared.state.Phase.{Phase}
@@ -68,16 +69,6 @@ module _ (C : ℕ → Language Letter) (CR : ℕ → ℕ → Language Letter) (V
     pub right : (calls : List Call) → Stands s calls → Right C V calls call reply
     pub after : (calls : List Call) → Stands s calls → Stands t (keep calls call reply)
     pub same : (n : ℕ) → reply ≡ refused n → t ≡ s
-
-  -- What begin finds out about the two engines: what is agreed, or that some number with a value language is not plain.
-  abbrev pub Agrees : Bool → Type 0
-  Agrees true = Agreed C V
-  Agrees false = ValuesPlain C V → ⊥
-
-  -- The same of one number.
-  abbrev pub AgreesAt : ℕ → Bool → Type 0
-  AgreesAt n true = Contents C × (Empty (V n) ⊎ (Inhabited (V n) × Plain C n)) × ((w : List ℕ) → V n w → Each IsByte w)
-  AgreesAt n false = Inhabited (V n) × (Plain C n → ⊥)
 
   -- What asking for an event answers: the right refusal, or a change after which the sheet stands for
   -- one event more.

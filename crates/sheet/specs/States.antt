@@ -1,6 +1,6 @@
 -- The state of a sheet in itself: the fresh one, and what a change makes of one.
 use Rattle.std.specs.Prelude.{ℕ, ◌+◌, ◌-◌, ◌<◌, ◌≤◌, true, false, replicate, None, ◌==◌, slice_set}
-use Rattle.sheet.specs.declared.state.Frame.{Frame}
+use Rattle.frames.specs.declared.frame.Frame.{Frame}
 use Rattle.sheet.specs.declared.state.State.{State}
 use Rattle.sheet.specs.declared.state.Phase.{Phase}
 use Rattle.sheet.specs.declared.state.Phase.TheVariants as phase

@@ -2,15 +2,13 @@
 
 #![tactic(auto)]
 
-mod answer;
-mod ask;
-mod call;
-mod foresee;
+mod known;
+mod pass;
 mod runs;
 mod sheet;
 mod state;
 
-pub use answer::{Answer, Pass, Refusal};
-pub use call::{Call, Event};
+pub use calls::{Answer, Call, Event, Refusal};
+pub use pass::Pass;
 pub use runs::{play, replay};
 pub use sheet::Sheet;

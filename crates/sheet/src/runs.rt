@@ -5,9 +5,8 @@ ghost use Rattle.std.specs.Prelude.{◌≡◌, ℕ, min, length, take, drop};
 ghost use Rattle.sheet.specs.Runs.{grants, Repeated, turns};
 ghost use Rattle.sheet.specs.Theorem.{Judged, RightThroughout};
 
-use super::answer::Answer;
-use super::call::Call;
 use super::sheet::Sheet;
+use calls::{Answer, Call};
 use engine::{Content, Engine};
 
 // Makes a sheet and sends it the calls, as many as have a place for their answer; answers that number.

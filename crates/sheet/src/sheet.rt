@@ -7,19 +7,18 @@ ghost use Rattle.sheet.specs.Said.{said, sent, Unwelcome};
 ghost use Rattle.sheet.specs.Expect.{Expects, ExpectsInside};
 ghost use Rattle.sheet.specs.Histories.{begin, send, finish};
 ghost use Rattle.sheet.specs.Histories.{Call as SentCall};
-ghost use Rattle.sheet.specs.Replies.{outcome, shown, verdict};
+ghost use Rattle.calls.specs.Replies.{shown};
+ghost use Rattle.sheet.specs.Replies.{outcome, verdict};
 ghost use Rattle.sheet.specs.Stands.{Asked, Moves, Stands};
 ghost use Rattle.sheet.specs.declared.state.Phase.TheVariants.{Begun, Open};
 
-use super::answer::{Answer, Pass, Refusal};
-use super::ask::{
-    agrees, has_byte, is_complete, is_declared, is_known, open_frame, read_letter, read_text,
-};
-use super::call::{Call, Event};
-use super::foresee::{children, some_text, with_if};
+use super::known::{has_byte, is_known};
+use super::pass::Pass;
 use super::state::{Change, MAX_DEPTH, MAX_EVENTS, Phase, State};
 use bits::with;
+use calls::{Answer, Call, Event, Refusal};
 use engine::{Content, Engine, Letter};
+use frames::{agrees, is_complete, is_declared, next_letters, open_frame, read_letter, read_text};
 
 // One document as far as it has come in, judged by the contents and values that its two engines stand for.
 #[derive(Drop)]
@@ -237,8 +236,7 @@ impl<'e, C: Content, V: Engine<Letter = u8>> Sheet<'e, C, V> {
         let Some(top) = self.state.top() else {
             return (0, false);
         };
-        let text = some_text(self.content, self.value, top);
-        let set = with_if(text, children(self.content, top), 0);
+        let set = next_letters(self.content, self.value, top);
         (set, is_complete(self.content, self.value, top))
     }
 

@@ -3,6 +3,8 @@
 ghost use Rattle.std.specs.Prelude.{◌≡◌, ◌-◌, ◌<◌, ◌≤◌, MatchOption, slice_index_or};
 ghost use Rattle.sheet.specs.States.{Fitting, applied, no_frame, fresh};
 
+use frames::Frame;
+
 // How many elements may be open at once.
 pub const MAX_DEPTH: usize = 64;
 
@@ -17,14 +19,6 @@ pub enum Phase {
     Open,
     Ended,
     Passed,
-}
-
-// An open element: its number, what its content still admits, and what its value does if it has one.
-#[derive(Clone, Copy)]
-pub struct Frame {
-    pub number: u8,
-    pub content: u64,
-    pub value: Option<u64>,
 }
 
 const NO_FRAME: Frame = Frame {

@@ -1,10 +1,10 @@
 use Rattle.std.proofs.Common.{◌≡◌, get_or, ap, ◌∙◌, subst, subst₂, arith}
-use Rattle.sheet.specs.Replies.{shown}
+use Rattle.calls.specs.Replies.{shown}
 use Rattle.sheet.specs.Runs.{turns}
 use Rattle.sheet.specs.Said.{sent}
 use Rattle.sheet.specs.Stands.{Moves}
 use Rattle.sheet.specs.Theorem.{RightThroughout}
-use Rattle.sheet.specs.declared.call.Call.TheVariants.{Begin}
+use Rattle.calls.specs.declared.call.Call.TheVariants.{Begin}
 use Rattle.sheet.proofs.Judging.{judged}
 use Rattle.sheet.proofs.Playing.{Played, played_none, played_more, turns_take}
 use Rattle.sheet.proofs.runs.play.Goals as goal

@@ -1,9 +1,9 @@
 use Rattle.std.proofs.Common.{◌+◌, ◌<◌, length, get_or, sym, ap, ◌∙◌, subst₂, arith}
-use Rattle.sheet.specs.Replies.{shown}
+use Rattle.calls.specs.Replies.{shown}
 use Rattle.sheet.specs.Said.{sent}
 use Rattle.sheet.specs.Stands.{Moves}
-use Rattle.sheet.specs.declared.answer.Answer.TheVariants.{Accepted}
-use Rattle.sheet.specs.declared.call.Call.TheVariants.{Begin}
+use Rattle.calls.specs.declared.answer.Answer.TheVariants.{Accepted}
+use Rattle.calls.specs.declared.call.Call.TheVariants.{Begin}
 use Rattle.sheet.proofs.Replaying.{resent_as, resent_none, resent_refused, resent_full, resent_more, resent_all}
 use Rattle.sheet.proofs.runs.send_granted.Goals as goal
 use Rattle.sheet.proofs.runs.send_granted.Goals.{then-not-is_refused+then-sent-again, else-not-is_refused, else-not-is_refused-via-then-not-is_refused+else-sent-again, else-not-is_refused-via-else-not-is_refused}

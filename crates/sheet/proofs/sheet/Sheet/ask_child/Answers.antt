@@ -1,7 +1,7 @@
 use Rattle.engine.specs.Trees.{start}
 use Rattle.sheet.specs.Histories.{send}
-use Rattle.sheet.specs.Replies.{refused}
 use Rattle.std.proofs.Common.{arith}
+use Rattle.calls.specs.Replies.{refused}
 use Rattle.sheet.proofs.Steps.{has_top, child_offends, child_too_deep, child_too_many, child_right}
 use Rattle.sheet.proofs.sheet.Sheet.ask_child.Goals as goal
 

@@ -1,7 +1,7 @@
 use Rattle.engine.specs.Trees.{end}
 use Rattle.sheet.specs.Histories.{send}
-use Rattle.sheet.specs.Replies.{refused}
 use Rattle.std.proofs.Common.{arith}
+use Rattle.calls.specs.Replies.{refused}
 use Rattle.sheet.proofs.Steps.{has_top, end_offends, end_too_many, end_right}
 use Rattle.sheet.proofs.sheet.Sheet.ask_end.Goals.{then-number-top-via-then-number-top, then-number-top-via-else-number-top+then-not-is_complete}
 use Rattle.sheet.proofs.sheet.Sheet.ask_end.Goals as goal

@@ -1,7 +1,7 @@
 use Rattle.engine.specs.Trees.{text}
 use Rattle.sheet.specs.Histories.{send}
-use Rattle.sheet.specs.Replies.{refused}
 use Rattle.std.proofs.Common.{arith}
+use Rattle.calls.specs.Replies.{refused}
 use mir.Facts.{Fits-lt-pow}
 use Rattle.sheet.proofs.Letters.{each_byte}
 use Rattle.sheet.proofs.Steps.{has_top, text_offends, text_too_many, text_right}

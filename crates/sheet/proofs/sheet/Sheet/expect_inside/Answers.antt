@@ -1,4 +1,3 @@
-use Rattle.std.proofs.Common.{arith}
 use Rattle.sheet.proofs.Expecting.{expects_inside, expects_top}
 use Rattle.sheet.proofs.sheet.Sheet.expect_inside.Goals as goal
 
@@ -18,5 +17,5 @@ returns g c is calls st =
     let V = g.V.Engine.language c.args.self.now.value.now in
     let VR = g.V.Engine.rest c.args.self.now.value.now in
     let s = c.args.self.now.state in
-    expects_inside C CR V VR s calls c.in-Some.top is c.in-Some.ensures.2 st c.with_if-set.result c.children.result c.some_text-text.result c.is_complete.result
-    c.some_text-text.ensures (c.with_if-set.ensures.here (omega arith) c.children.ensures.text) c.children.ensures.starts c.with_if-set.ensures.others c.is_complete.ensures
+    expects_inside C CR V VR s calls c.in-Some.top is c.in-Some.ensures.2 st c.next_letters-set.result c.is_complete.result
+    c.next_letters-set.ensures.text c.next_letters-set.ensures.starts c.is_complete.ensures
