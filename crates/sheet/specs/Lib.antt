@@ -1,6 +1,7 @@
 pub mod Expect
 pub mod Histories
 pub mod Levels
+pub mod Moves
 pub mod Questions
 pub mod Replies
 pub mod Runs

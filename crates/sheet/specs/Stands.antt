@@ -12,6 +12,7 @@ use Rattle.sheet.specs.Questions.{IsDocument, Right}
 use Rattle.sheet.specs.States.{applied, no_frame, Fitting}
 use Rattle.calls.specs.declared.answer.Refusal.{Refusal}
 use Rattle.frames.specs.declared.frame.Frame.{Frame}
+use Rattle.frames.specs.Meanings.{Meaning}
 use Rattle.sheet.specs.declared.state.State.{State}
 use Rattle.sheet.specs.declared.state.Change.{Change}
 use Rattle.sheet.specs.declared.state.Phase.{Phase}
@@ -23,13 +24,13 @@ abbrev pub ReadsValue : Language ℕ → (ℕ → Language ℕ) → List ℕ →
 ReadsValue L rest w None = Empty L
 ReadsValue L rest w (Some s) = Inhabited L × Same (rest s) (residue L w)
 
-module _ (C : ℕ → Language Letter) (CR : ℕ → ℕ → Language Letter) (V : ℕ → Language ℕ) (VR : ℕ → ℕ → Language ℕ) where
+module _ (M : Meaning) where
   -- The frame stands for the open element: its states have as rests what may follow the children read,
   -- which are the complete ones and then the pending letters.
   pub record Reads (frame : Frame) (l : Level) (pending : List Letter) : Type 0 where
     pub number : frame.number ≡ l.number
-    pub content : Same (CR l.number frame.content) (residue (C l.number) (letters l.done ++ pending))
-    pub value : ReadsValue (V l.number) (VR l.number) (joined l.done) frame.value
+    pub content : Same (M.content_rests l.number frame.content) (residue (M.contents l.number) (letters l.done ++ pending))
+    pub value : ReadsValue (M.values l.number) (M.value_rests l.number) (joined l.done) frame.value
 
   -- The first frames, as many as there are open elements, stand for these, the innermost last.
   abbrev pub Held : List Frame → ℕ → List Letter → List Level → Type 0
@@ -48,31 +49,31 @@ module _ (C : ℕ → Language Letter) (CR : ℕ → ℕ → Language Letter) (V
     pub levels : List Level
     pub outermost : Outermost s.root levels
     pub led : events calls ≡ opened levels
-    pub alive : Alive C V [] levels
+    pub alive : Alive M.contents M.values [] levels
     pub held : Held s.frames s.depth [] levels
     pub fits : s.depth ≤ 64
 
   abbrev pub StandsAt : Phase → State → List Call → Type 0
   StandsAt phase.Fresh s calls = (calls ≡ []) × (s.count ≡ 0)
-  StandsAt phase.Begun s calls = Tallied s calls × (passed calls ≡ false) × Agreed C V × Declared C s.root × (events calls ≡ [])
-  StandsAt phase.Open s calls = Tallied s calls × (passed calls ≡ false) × Agreed C V × Within s calls
-  StandsAt phase.Ended s calls = Tallied s calls × (passed calls ≡ false) × IsDocument C V s.root (events calls)
-  StandsAt phase.Passed s calls = Tallied s calls × (passed calls ≡ true) × IsDocument C V s.root (events calls)
+  StandsAt phase.Begun s calls = Tallied s calls × (passed calls ≡ false) × Agreed M.contents M.values × Declared M.contents s.root × (events calls ≡ [])
+  StandsAt phase.Open s calls = Tallied s calls × (passed calls ≡ false) × Agreed M.contents M.values × Within s calls
+  StandsAt phase.Ended s calls = Tallied s calls × (passed calls ≡ false) × IsDocument M.contents M.values s.root (events calls)
+  StandsAt phase.Passed s calls = Tallied s calls × (passed calls ≡ true) × IsDocument M.contents M.values s.root (events calls)
 
   -- The state stands for these accepted calls.
   abbrev pub Stands : State → List Call → Type 0
   Stands s calls = (length s.frames ≡ 64) × StandsAt s.phase s calls
 
-  -- What a call does: the reply is right for whatever the sheet stood for, the sheet then stands for
+  -- What a call does to the state: the reply is right for whatever the sheet stood for, the sheet then stands for
   -- that and the call if it was accepted, and a refused call leaves it as it was.
-  pub record Moves (s t : State) (call : Call) (reply : Reply) : Type 0 where
-    pub right : (calls : List Call) → Stands s calls → Right C V calls call reply
+  pub record Moved (s t : State) (call : Call) (reply : Reply) : Type 0 where
+    pub right : (calls : List Call) → Stands s calls → Right M.contents M.values calls call reply
     pub after : (calls : List Call) → Stands s calls → Stands t (keep calls call reply)
     pub same : (n : ℕ) → reply ≡ refused n → t ≡ s
 
   -- What asking for an event answers: the right refusal, or a change after which the sheet stands for
   -- one event more.
   abbrev pub Asked : State → Event → Result Change Refusal → Type 0
-  Asked s e (Err r) = (calls : List Call) → Stands s calls → Right C V calls (send e) (refused (number r))
+  Asked s e (Err r) = (calls : List Call) → Stands s calls → Right M.contents M.values calls (send e) (refused (number r))
   Asked s e (Ok change) = Fitting s change
-      × ((calls : List Call) → Stands s calls → Right C V calls (send e) accepted × Stands (applied s change) (calls ++ (send e ∷ [])))
+      × ((calls : List Call) → Stands s calls → Right M.contents M.values calls (send e) accepted × Stands (applied s change) (calls ++ (send e ∷ [])))

@@ -2,13 +2,15 @@
 
 #![tactic(auto)]
 
-mod known;
+mod expected;
 mod pass;
 mod runs;
 mod sheet;
 mod state;
 
-pub use calls::{Answer, Call, Event, Refusal};
+pub use calls::{Answer, Call, Event, Granted, Refusal};
+pub use expected::Expected;
+pub use frames::Engines;
 pub use pass::Pass;
 pub use runs::{play, replay};
 pub use sheet::Sheet;
