@@ -1,5 +1,5 @@
 -- What a sheet tells about the next events is right for the calls that it stands for.
-use Rattle.std.proofs.Common.{◌≡◌, ℕ, ◌-◌, ◌<◌, ◌≤◌, Bool, true, false, ◌⊎◌, List, [], ◌∷◌, ◌++◌, get_or, Some, None, Option, sym, refl, ◌∙◌, subst, inl, inr, append_assoc, arith}
+use Rattle.std.proofs.Common.{◌≡◌, ℕ, ◌-◌, ◌<◌, ◌≤◌, Bool, true, false, ◌⊎◌, List, [], ◌∷◌, ◌++◌, slice_get, Some, None, Option, sym, refl, ◌∙◌, subst, inl, inr, append_assoc, arith}
 use native.Mathlib.Decide.{ℕ_discrete}
 use Rattle.bits.specs.Sets.{has}
 use Rattle.bits.proofs.Sets.{empty}
@@ -16,7 +16,7 @@ use Rattle.sheet.specs.Histories.{Call}
 use Rattle.sheet.specs.Levels.{Level, opened}
 use Rattle.sheet.specs.Questions.{Admitted, BeginsDocument, HasByte, Underway}
 use Rattle.sheet.specs.Stands.{Reads, ReadsValue, StandsAt, Stands}
-use Rattle.sheet.specs.States.{no_frame}
+use Rattle.sheet.specs.States.{depth}
 use Rattle.frames.specs.declared.frame.Frame.{Frame}
 use Rattle.frames.specs.Meanings.{Meaning}
 use Rattle.sheet.specs.declared.state.State.{State}
@@ -25,7 +25,7 @@ use Rattle.sheet.proofs.Completion.{completes, alive_root}
 use Rattle.sheet.proofs.Frames.{reads_after, value_after, reads_end}
 use Rattle.sheet.proofs.Letters.{each_front, each_back}
 use Rattle.sheet.proofs.Prefixes.{starts_inside, texts_inside, ends_inside, first_event, nothing_after}
-use Rattle.sheet.proofs.Steps.{begins_at, within_depth, here, in_top, child_admitted, text_admitted, end_admitted}
+use Rattle.sheet.proofs.Steps.{begins_at, some_top, here, in_top, child_admitted, text_admitted, end_admitted}
 
 different : {w : List ℕ} {r : ℕ} → text w ≡ start r → ⊥
 different e = let z : ◌≡◌ {A = ℕ} 0 1 = cc in omega arith
@@ -46,7 +46,7 @@ expects_nothing C V calls never = record {
 
 module _ (M : Meaning) where
   pub expects_ended : (s : State) (calls : List Call) → s.phase ≡ phase.Ended → Stands M s calls → Underway calls × ExpectedNext M.contents M.values calls 0 false
-  expects_ended s calls is (size, st) =
+  expects_ended s calls is st =
       let h = subst (λ p. StandsAt M p s calls) is st in
       let (f, valid, whole) = h.2 in (
         ((s.root, h.0.begun), h.1),
@@ -56,7 +56,7 @@ module _ (M : Meaning) where
   -- Before the root starts, only its start is welcome.
   pub expects_root : (s : State) (calls : List Call) (set : ℕ) → s.phase ≡ phase.Begun → (s.root < 64 → has set s.root ≡ true) → ((q : ℕ) → (q ≡ s.root → ⊥) → has set q ≡ has 0 q) →
       Stands M s calls → Underway calls × ExpectedNext M.contents M.values calls set false
-  expects_root s calls set is here-is others (size, st) =
+  expects_root s calls set is here-is others st =
       let (tally, unpassed, agreed, declared, nothing) = subst (λ p. StandsAt M p s calls) is st in
       let r = s.root in
       let bounds = agreed.law.numbers r declared in
@@ -76,16 +76,14 @@ module _ (M : Meaning) where
       )
 
   pub open_underway : (s : State) (calls : List Call) → s.phase ≡ phase.Open → Stands M s calls → Underway calls
-  open_underway s calls is (size, st) = let h = subst (λ p. StandsAt M p s calls) is st in ((s.root, h.0.begun), h.1)
+  open_underway s calls is st = let h = subst (λ p. StandsAt M p s calls) is st in ((s.root, h.0.begun), h.1)
 
   -- A sheet where something is open has an innermost element.
-  pub expects_top : (s : State) (calls : List Call) → s.phase ≡ phase.Open → Stands M s calls → (0 < s.depth → s.depth ≤ 64 → ⊥) → ExpectedNext M.contents M.values calls 0 false
-  expects_top s calls is (size, st) never =
-      let h = subst (λ p. StandsAt M p s calls) is st in
-      absurd (never (within_depth M s calls h.3) h.3.fits)
+  pub expects_top : (s : State) (calls : List Call) → s.phase ≡ phase.Open → Stands M s calls → None ≡ slice_get s.frames.items (depth s - 1) → ExpectedNext M.contents M.values calls 0 false
+  expects_top s calls is st never = absurd (some_top M s calls (subst (λ p. StandsAt M p s calls) is st).3 never)
 
   -- Inside the innermost element, whose frame is f.
-  module _ (s : State) (calls : List Call) (f : Frame) (is : s.phase ≡ phase.Open) (top : f ≡ get_or s.frames (s.depth - 1) no_frame) (st : Stands M s calls) where
+  module _ (s : State) (calls : List Call) (f : Frame) (is : s.phase ≡ phase.Open) (top : Some f ≡ slice_get s.frames.items (depth s - 1)) (st : Stands M s calls) where
     abbrev in_level : Level
     in_level = (in_top M s calls f is top st).level
 

@@ -1,5 +1,7 @@
 -- Frames: what a write to one leaves of the others, and what the engines' answers say of the element it stands for.
-use Rattle.std.proofs.Common.{◌≡◌, ℕ, suc, ◌≤◌, ◌≢◌, ◌⊎◌, List, [], ◌∷◌, ◌++◌, length, set, Some, None, Option, sym, refl, ap, ◌∙◌, subst, inl, inr, append_assoc, append-nil, arith, get_or-set_other}
+use Rattle.std.proofs.Common.{◌≡◌, ℕ, ◌+◌, ◌-◌, ◌<◌, ◌≤◌, Bool, true, false, ◌==◌, ◌⊎◌, List, [], ◌∷◌, ◌++◌, length, take, slice_get, Some, None, Option, sym, refl, ap, ◌∙◌, subst, inl, inr, append_assoc, append-nil, arith}
+use Rattle.std.proofs.lemmas.Bool.{eqb-true, eqb-false}
+use Rattle.std.proofs.lemmas.List.{length_push}
 use Rattle.engine.specs.Languages.{Empty, Inhabited, Same, residue, Answers}
 use Rattle.engine.specs.Trees.{Forest, none, piece, child, letters, joined, Fits}
 use Rattle.engine.specs.declared.alphabet.Letter.{Letter}
@@ -7,28 +9,46 @@ use Rattle.engine.specs.declared.alphabet.Letter.TheVariants.{Text, Element}
 use Rattle.frames.specs.Asks.{OpensFrame, ReadsLetter, ReadsText, AdvancesValue, NoValue, ValueEnds, Completes}
 use Rattle.sheet.specs.Levels.{Level}
 use Rattle.sheet.specs.Stands.{Reads, ReadsValue, Held}
-use Rattle.sheet.specs.States.{no_frame}
 use Rattle.frames.specs.declared.frame.Frame.{Frame}
 use Rattle.frames.specs.Meanings.{Meaning}
 use Rattle.sheet.proofs.Forests.{join, letters_join, joined_join}
 
-module _ (M : Meaning) where
-  -- A write at or past the depth leaves what is held.
-  pub held_set : (frames : List Frame) (depth : ℕ) (pending : List Letter) (ls : List Level) (i : ℕ) (f : Frame) →
-      depth ≤ i → Held M frames depth pending ls → Held M (set frames i f) depth pending ls
-  held_set frames depth pending [] i f h e = e
-  held_set frames depth pending (l ∷ ls) i f h (below, e, r, more) =
-      let ne : below ≢ i = omega arith in (
-        below,
-        e,
-        subst (λ x. Reads M x l pending) (sym (get_or-set_other frames i below f no_frame ne)) r,
-        held_set frames below (Element l.number ∷ []) ls i f (omega arith) more,
-      )
+-- What is last, and what is before it.
+pub last_is : (front : List Frame) (f : Frame) → slice_get (front ++ (f ∷ [])) (length (front ++ (f ∷ [])) - 1) ≡ Some f
+last_is front f =
+    let at : length (front ++ (f ∷ [])) - 1 ≡ length front = ap (λ n. n - 1) (length_push front f) ∙ omega arith in
+    ap (slice_get (front ++ (f ∷ []))) at ∙ at_last front
+  where
+    at_last : (xs : List Frame) → slice_get (xs ++ (f ∷ [])) (length xs) ≡ Some f
+    at_last [] = refl
+    at_last (x ∷ xs) = at_last xs
 
-  pub held_length : (frames : List Frame) (depth : ℕ) (pending : List Letter) (ls : List Level) →
-      Held M frames depth pending ls → depth ≡ length ls
-  held_length frames depth pending [] e = e
-  held_length frames depth pending (l ∷ ls) (below, e, r, more) = e ∙ ap suc (held_length frames below (Element l.number ∷ []) ls more)
+pub front_is : (front : List Frame) (f : Frame) → take (length (front ++ (f ∷ [])) - 1) (front ++ (f ∷ [])) ≡ front
+front_is front f =
+    let at : length (front ++ (f ∷ [])) - 1 ≡ length front = ap (λ n. n - 1) (length_push front f) ∙ omega arith in
+    ap (λ n. take n (front ++ (f ∷ []))) at ∙ before_last front
+  where
+    before_last : (xs : List Frame) → take (length xs) (xs ++ (f ∷ [])) ≡ xs
+    before_last [] = refl
+    before_last (x ∷ xs) = ap (λ ys. x ∷ ys) (before_last xs)
+
+-- Where there is a last, something is there.
+pub not_empty : (frames : List Frame) (f : Frame) (i : ℕ) → Some f ≡ slice_get frames i → 0 < length frames
+not_empty [] f i e = let z : ◌≡◌ {A = ℕ} 0 1 = cc in omega arith
+not_empty (g ∷ frames) f i e = omega arith
+
+-- Whether 64 are open, as the test for a full vector tells.
+pub full : (n : ℕ) (b : Bool) → b ≡ (n == 64) → b ≡ true → 64 ≤ n
+full n b e is = let all = eqb-true n 64 (sym e ∙ is) in omega arith
+
+pub not_full : (n : ℕ) (b : Bool) → b ≡ (n == 64) → n ≤ 64 → b ≡ false → n < 64
+not_full n b e fits is = let fewer = eqb-false n 64 (sym e ∙ is) in omega (arith, fewer)
+
+module _ (M : Meaning) where
+  pub held_length : (frames : List Frame) (pending : List Letter) (ls : List Level) → Held M frames pending ls → length frames ≡ length ls
+  held_length frames pending [] e = ap length e
+  held_length frames pending (l ∷ ls) (front, f, e, r, more) =
+      ap length e ∙ (length_push front f ∙ (ap (λ n. n + 1) (held_length front (Element l.number ∷ []) ls more) ∙ omega arith))
 
   -- The frame of an element that has just started stands for it.
   pub reads_opened : (n : ℕ) (f : Frame) → OpensFrame M n (Some f) → Reads M f (record { number = n; done = none }) []

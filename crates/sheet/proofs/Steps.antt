@@ -1,5 +1,6 @@
 -- One event asked of a sheet that stands for some calls: which reply is right, and what the sheet then stands for.
-use Rattle.std.proofs.Common.{◌≡◌, ℕ, suc, ◌+◌, ◌-◌, ◌<◌, ◌≤◌, true, false, ◌≢◌, ◌⊎◌, List, [], ◌∷◌, ◌++◌, length, get_or, set, Some, None, sym, refl, ap, ◌∙◌, subst, inl, inr, append-nil, arith, length-append, length-set, get_or-set_other, get_or-set_same}
+use Rattle.std.proofs.Common.{◌≡◌, ℕ, suc, ◌+◌, ◌-◌, ◌<◌, ◌≤◌, true, false, ◌⊎◌, List, [], ◌∷◌, ◌++◌, length, take, slice_get, Some, None, Option, sym, refl, ap, ◌∙◌, subst, inl, inr, append_assoc, append-nil, arith, length-append}
+use Rattle.std.proofs.lemmas.List.{length_push}
 use lib.Dec.{eqb-suc-zero}
 use Rattle.engine.specs.Languages.{Language, Empty, Inhabited, residue, Each}
 use Rattle.engine.specs.Trees.{Forest, none, piece, child, letters, joined, Fits, Valid, Declared, IsByte, Event, start, text, end, traversal}
@@ -13,7 +14,7 @@ use Rattle.sheet.specs.Levels.{Level, opened, Outermost, Alive}
 use Rattle.sheet.specs.Questions.{BeginsDocument, IsDocument, HasByte, Known, Underway, ValuesPlain, number_or_0, Admitted, Right}
 use Rattle.sheet.specs.Said.{Unwelcome}
 use Rattle.sheet.specs.Stands.{Reads, Held, Tallied, Within, StandsAt, Stands}
-use Rattle.sheet.specs.States.{no_frame, applied, phase_at}
+use Rattle.sheet.specs.States.{applied, around, depth, phase_at}
 use Rattle.calls.specs.declared.answer.Refusal.{Refusal}
 use Rattle.frames.specs.declared.frame.Frame.{Frame}
 use Rattle.frames.specs.Meanings.{Meaning}
@@ -25,7 +26,7 @@ use Rattle.sheet.proofs.Balance.{open_count, document_balanced}
 use Rattle.sheet.proofs.Calls.{root_more, events_more, passed_more, root_finish, events_finish, passed_finish}
 use Rattle.sheet.proofs.Completion.{completes, alive_root, alive_start, alive_text, alive_end, opened_start, opened_text, opened_end, opened_whole}
 use Rattle.sheet.proofs.Forests.{join}
-use Rattle.sheet.proofs.Frames.{held_set, held_length, reads_opened, reads_letter, stuck_letter, reads_text, stuck_text, reads_end, reads_child}
+use Rattle.sheet.proofs.Frames.{last_is, front_is, held_length, reads_opened, reads_letter, stuck_letter, reads_text, stuck_text, reads_end, reads_child}
 use Rattle.sheet.proofs.Prefixes.{starts_inside, texts_inside, ends_inside, nothing_after}
 
 -- The root that a document begins with is the one begun.
@@ -46,45 +47,50 @@ module _ (M : Meaning) where
   pub record Inner (s : State) (calls : List Call) (f : Frame) : Type 0 where
     pub level : Level
     pub around : List Level
-    pub below : ℕ
+    pub front : List Frame
     pub outermost : Outermost s.root (level ∷ around)
     pub led : events calls ≡ opened (level ∷ around)
     pub alive : Alive M.contents M.values [] (level ∷ around)
-    pub depth : s.depth ≡ suc below
+    pub split : s.frames.items ≡ front ++ (f ∷ [])
     pub reads : Reads M f level []
-    pub held : Held M s.frames below (Element level.number ∷ []) around
+    pub held : Held M front (Element level.number ∷ []) around
 
-  pub inner : (s : State) (calls : List Call) (f : Frame) → Within M s calls → f ≡ get_or s.frames (s.depth - 1) no_frame → Inner s calls f
-  inner s calls f w e = go w.levels w.outermost w.led w.alive w.held
+  pub inner : (s : State) (calls : List Call) (f : Frame) → Within M s calls → Some f ≡ slice_get s.frames.items (depth s - 1) → Inner s calls f
+  inner s calls f w top = go w.levels w.outermost w.led w.alive w.held
     where
-      go : (ls : List Level) → Outermost s.root ls → events calls ≡ opened ls → Alive M.contents M.values [] ls → Held M s.frames s.depth [] ls → Inner s calls f
+      go : (ls : List Level) → Outermost s.root ls → events calls ≡ opened ls → Alive M.contents M.values [] ls → Held M s.frames.items [] ls → Inner s calls f
       go [] o p a h = absurd o
-      go (l ∷ ls) o p a (below, d, r, h) =
-          let same : s.depth - 1 ≡ below = omega arith in
+      go (l ∷ ls) o p a (front, g, split, r, h) =
+          let told : ◌≡◌ {A = Option Frame} (Some f) (Some g) = top ∙ (ap (λ fs. slice_get fs (length fs - 1)) split ∙ last_is front g) in
+          let same : f ≡ g = cc in
           record {
             level = l;
             around = ls;
-            below = below;
+            front = front;
             outermost = o;
             led = p;
             alive = a;
-            depth = d;
-            reads = subst (λ x. Reads M x l []) (sym (e ∙ ap (λ i. get_or s.frames i no_frame) same)) r;
+            split = split ∙ ap (λ x. front ++ (x ∷ [])) (sym same);
+            reads = subst (λ x. Reads M x l []) (sym same) r;
             held = h;
           }
 
-  pub within_depth : (s : State) (calls : List Call) → Within M s calls → 0 < s.depth
-  within_depth s calls w = go w.levels w.outermost w.held
+  -- A sheet where something is open has an innermost element.
+  pub some_top : (s : State) (calls : List Call) → Within M s calls → None ≡ slice_get s.frames.items (depth s - 1) → ⊥
+  some_top s calls w never = go w.levels w.outermost w.held
     where
-      go : (ls : List Level) → Outermost s.root ls → Held M s.frames s.depth [] ls → 0 < s.depth
-      go [] o h = absurd o
-      go (l ∷ ls) o (below, d, r, h) = omega arith
+      go : (ls : List Level) → Outermost s.root ls → Held M s.frames.items [] ls → ⊥
+      go [] o h = o
+      go (l ∷ ls) o (front, g, split, r, h) =
+          let told : ◌≡◌ {A = Option Frame} None (Some g) = never ∙ (ap (λ fs. slice_get fs (length fs - 1)) split ∙ last_is front g) in
+          let z : ◌≡◌ {A = ℕ} 0 1 = cc in
+          omega arith
 
   -- How many elements are open, by the events.
-  inner_open : (s : State) (calls : List Call) (f : Frame) → Inner s calls f → starts (events calls) ≡ ends (events calls) + s.depth
+  inner_open : (s : State) (calls : List Call) (f : Frame) → Inner s calls f → starts (events calls) ≡ ends (events calls) + depth s
   inner_open s calls f i =
       let ls = i.level ∷ i.around in
-      let deep : s.depth ≡ length ls = i.depth ∙ ap suc (held_length M s.frames i.below _ i.around i.held) in
+      let deep : depth s ≡ length ls = held_length M s.frames.items [] ls (i.front, f, i.split, i.reads, i.held) in
       ap starts i.led ∙ (open_count ls ∙ (ap (λ es. ends es + length ls) (sym i.led) ∙ ap (λ d. ends (events calls) + d) (sym deep)))
 
   -- One event more is tallied.
@@ -114,18 +120,17 @@ module _ (M : Meaning) where
     many h k = omega (arith, tally.count)
 
   at_open : (s : State) (calls : List Call) → s.phase ≡ phase.Open → Stands M s calls → StandsAt M phase.Open s calls
-  at_open s calls is (size, h) = subst (λ p. StandsAt M p s calls) is h
+  at_open s calls is h = subst (λ p. StandsAt M p s calls) is h
 
-  -- A sheet where something is open has an innermost element.
   pub has_top : (s : State) (calls : List Call) (call : Call) (reply : Reply) → s.phase ≡ phase.Open → Stands M s calls →
-      (0 < s.depth → s.depth ≤ 64 → ⊥) → Right M.contents M.values calls call reply
-  has_top s calls call reply is st never = let h = at_open s calls is st in absurd (never (within_depth s calls h.3) h.3.fits)
+      None ≡ slice_get s.frames.items (depth s - 1) → Right M.contents M.values calls call reply
+  has_top s calls call reply is st never = absurd (some_top s calls (at_open s calls is st).3 never)
 
   -- The root's start.
   pub root_right : (s : State) (calls : List Call) (n : ℕ) (f : Frame) → s.phase ≡ phase.Begun → n ≡ s.root → s.count < 1000000 →
       OpensFrame M n (Some f) → Stands M s calls →
       Right M.contents M.values calls (send (start n)) accepted × Stands M (applied s (change.Root f)) (calls ++ (send (start n) ∷ []))
-  root_right s calls n f is same count open-frame (size, st) =
+  root_right s calls n f is same count open-frame st =
       let (tally, unpassed, agreed, declared, nothing) = subst (λ p. StandsAt M p s calls) is st in
       let e = start n in
       let new : Level = record { number = s.root; done = none } in
@@ -139,27 +144,17 @@ module _ (M : Meaning) where
       let reads = subst (λ m. Reads M f (record { number = m; done = none }) []) same (reads_opened M n f open-frame) in (
         inr (underway s calls tally unpassed, inr (known, inr (admitted s calls tally unpassed e document, inr (shallow, inr (few s calls tally unpassed count, refl))))),
         (
-          length-set s.frames 0 f ∙ size,
-          (
-            tallied_more s (applied s (change.Root f)) calls e tally refl refl,
-            passed_more calls e ∙ unpassed,
-            agreed,
-            record {
-              levels = new ∷ [];
-              outermost = refl;
-              led = led;
-              alive = alive;
-              held = (0, refl, subst (λ x. Reads M x new []) (sym (get_or-set_same s.frames 0 f no_frame (omega (arith, size)))) reads, refl);
-              fits = omega arith;
-            },
-          ),
+          tallied_more s (applied s (change.Root f)) calls e tally refl refl,
+          passed_more calls e ∙ unpassed,
+          agreed,
+          record { levels = new ∷ []; outermost = refl; led = led; alive = alive; held = ([], f, refl, reads, refl) },
         ),
       )
 
   -- No event has a place behind the root's end.
   pub ended_unwelcome : (s : State) (calls : List Call) (e : Event) (r : Refusal) → s.phase ≡ phase.Ended → Unwelcome M.contents e r → Stands M s calls →
       Right M.contents M.values calls (send e) (refused (number r))
-  ended_unwelcome s calls e r is unwelcome (size, st) =
+  ended_unwelcome s calls e r is unwelcome st =
       let (tally, unpassed, f, valid, whole) = ended_at s calls is st in
       elim unwelcome [
         | inl p ↦ subst (λ x. Right M.contents M.values calls (send e) (refused (number x))) (sym p.1) (right_35 s calls tally unpassed e p.0)
@@ -171,61 +166,70 @@ module _ (M : Meaning) where
           Tallied M s calls × (passed calls ≡ false) × (f : Forest) × Valid M.contents M.values s.root f × (traversal s.root f ≡ events calls)
       ended_at s calls is st = let h = subst (λ p. StandsAt M p s calls) is st in (h.0, h.1, h.2.0, h.2.1, h.2.2)
 
+  -- Where something is open, more elements have started than ended.
+  open_uneven : (s : State) (calls : List Call) → Within M s calls → starts (events calls) ≡ ends (events calls) → ⊥
+  open_uneven s calls w even = go w.levels w.outermost w.led
+    where
+      go : (ls : List Level) → Outermost s.root ls → events calls ≡ opened ls → ⊥
+      go [] o led = o
+      go (l ∷ ls) o led =
+          let more : starts (events calls) ≡ ends (events calls) + length (l ∷ ls) =
+          ap starts led ∙ (open_count (l ∷ ls) ∙ ap (λ es. ends es + length (l ∷ ls)) (sym led)) in
+          omega arith
+
   -- Finish while something is open.
   pub finish_open : (s : State) (calls : List Call) → s.phase ≡ phase.Open → Stands M s calls → Right M.contents M.values calls finish (refused 39)
   finish_open s calls is st =
       let h = at_open s calls is st in
-      let deep = within_depth s calls h.3 in
-      let top = inner s calls (get_or s.frames (s.depth - 1) no_frame) h.3 refl in
-      inr (underway s calls h.0 h.1, inl ((λ (some, even). omega (arith, inner_open s calls _ top)), refl))
+      inr (underway s calls h.0 h.1, inl ((λ (some, even). open_uneven s calls h.3 even), refl))
 
   -- Finish behind the root's end.
   pub finish_ended : (s : State) (calls : List Call) → s.phase ≡ phase.Ended → Stands M s calls →
       Right M.contents M.values calls finish (pass s.root s.count)
-      × Stands M (record { phase = phase.Passed; root = s.root; depth = s.depth; count = s.count; frames = s.frames }) (calls ++ (finish ∷ []))
-  finish_ended s calls is (size, st) =
+      × Stands M (record { phase = phase.Passed; root = s.root; count = s.count; frames = s.frames }) (calls ++ (finish ∷ []))
+  finish_ended s calls is st =
       let h = subst (λ p. StandsAt M p s calls) is st in
       let counts = document_balanced M.contents M.values s.root (events calls) h.2 in
       let says : pass s.root s.count ≡ pass (number_or_0 (root calls)) (length (events calls)) =
       ap (λ n. pass s.root n) h.0.count ∙ ap (λ o. pass (number_or_0 o) (length (events calls))) (sym h.0.begun) in (
         inr (underway s calls h.0 h.1, inr (counts, says)),
         (
-          size,
-          (
-            record { begun = root_finish calls ∙ h.0.begun; count = h.0.count ∙ ap length (sym (events_finish calls)) },
-            passed_finish calls,
-            subst (IsDocument M.contents M.values s.root) (sym (events_finish calls)) h.2,
-          ),
+          record { begun = root_finish calls ∙ h.0.begun; count = h.0.count ∙ ap length (sym (events_finish calls)) },
+          passed_finish calls,
+          subst (IsDocument M.contents M.values s.root) (sym (events_finish calls)) h.2,
         ),
       )
 
   -- A begin over engines that do not agree.
   pub begin_unplain : (s : State) (calls : List Call) (n : ℕ) → s.phase ≡ phase.Fresh → Declared M.contents n → Agrees M false → Stands M s calls →
       Right M.contents M.values calls (begin n) (refused 33)
-  begin_unplain s calls n is declared (m, low, high, valued, unplain) (size, st) =
+  begin_unplain s calls n is declared (m, low, high, valued, unplain) st =
       let h = subst (λ p. StandsAt M p s calls) is st in
       inr (ap root h.0, inr (declared, inl ((λ plain. unplain (plain m low high valued)), refl)))
 
   -- A begin that is accepted.
   pub begin_right : (s : State) (calls : List Call) (n : ℕ) → s.phase ≡ phase.Fresh → Declared M.contents n → Agreed M.contents M.values → Stands M s calls →
       Right M.contents M.values calls (begin n) accepted
-      × Stands M (record { phase = phase.Begun; root = n; depth = s.depth; count = s.count; frames = s.frames }) (calls ++ (begin n ∷ []))
-  begin_right s calls n is declared agreed (size, st) =
+      × Stands M (record { phase = phase.Begun; root = n; count = s.count; frames = s.frames }) (calls ++ (begin n ∷ []))
+  begin_right s calls n is declared agreed st =
       let h = subst (λ p. StandsAt M p s calls) is st in
       let plain : ValuesPlain M.contents M.values = λ m low high i. elim (agreed.values m low high) [ inl never ↦ absurd (never i.0 i.1) | inr p ↦ p.1 ] in
       let only : begin n ∷ [] ≡ calls ++ (begin n ∷ []) = ap (λ l. l ++ (begin n ∷ [])) (sym h.0) in (
         inr (ap root h.0, inr (declared, inr (plain, refl))),
-        subst (λ l. Stands M (record { phase = phase.Begun; root = n; depth = s.depth; count = s.count; frames = s.frames }) l) only
-            (size, (record { begun = refl; count = h.1 }, refl, agreed, declared, refl)),
+        subst (λ l. Stands M (record { phase = phase.Begun; root = n; count = s.count; frames = s.frames }) l) only
+            (record { begun = refl; count = h.1 }, refl, agreed, declared, refl),
       )
 
   -- Events inside the innermost element, whose frame is f.
-  module _ (s : State) (calls : List Call) (f : Frame) (is : s.phase ≡ phase.Open) (top : f ≡ get_or s.frames (s.depth - 1) no_frame) (st : Stands M s calls) where
+  module _ (s : State) (calls : List Call) (f : Frame) (is : s.phase ≡ phase.Open) (top : Some f ≡ slice_get s.frames.items (depth s - 1)) (st : Stands M s calls) where
     pub here : StandsAt M phase.Open s calls
     here = at_open s calls is st
 
     pub in_top : Inner s calls f
     in_top = inner s calls f here.3 top
+
+    around_is : around s ≡ in_top.front
+    around_is = ap (λ fs. take (length fs - 1) fs) in_top.split ∙ front_is in_top.front f
 
     -- The accepted events and one more begin no document where those of the open elements and it begin none.
     never : (e : Event) → (BeginsDocument M.contents M.values s.root (opened (in_top.level ∷ in_top.around) ++ (e ∷ [])) → ⊥) → BeginsDocument M.contents M.values s.root (events calls ++ (e ∷ [])) → ⊥
@@ -274,60 +278,41 @@ module _ (M : Meaning) where
       admits : Admitted M.contents M.values calls (start n)
       admits = child_admitted n child_known child_read.0
 
-      pub child_too_deep : 64 ≤ s.depth → Right M.contents M.values calls (send (start n)) (refused 37)
+      pub child_too_deep : 64 ≤ depth s → Right M.contents M.values calls (send (start n)) (refused 37)
       child_too_deep deep =
           inr (underway s calls here.0 here.1, inr (child_known, inr (admits, inl ((λ few. omega (arith, inner_open s calls f in_top)), refl))))
 
-      shallow : s.depth < 64 → starts (events calls) < ends (events calls) + 64
+      shallow : depth s < 64 → starts (events calls) < ends (events calls) + 64
       shallow h = omega (arith, inner_open s calls f in_top)
 
-      pub child_too_many : s.depth < 64 → 1000000 ≤ s.count → Right M.contents M.values calls (send (start n)) (refused 38)
+      pub child_too_many : depth s < 64 → 1000000 ≤ s.count → Right M.contents M.values calls (send (start n)) (refused 38)
       child_too_many fits more =
           inr (underway s calls here.0 here.1, inr (child_known, inr (admits, inr (shallow fits, inl (many s calls here.0 here.1 more, refl)))))
 
-      pub child_right : s.depth < 64 → s.count < 1000000 →
+      pub child_right : depth s < 64 → s.count < 1000000 →
           Right M.contents M.values calls (send (start n)) accepted × Stands M (applied s (change.Child g k)) (calls ++ (send (start n) ∷ []))
       unfolding new
       child_right fits less =
           let fresh_level : Level = record { number = n; done = none } in
-          let frames = s.frames in
-          let d = s.depth in
-          let at : d - 1 ≡ in_top.below = omega (arith, in_top.depth) in
-          let long : length (set frames (d - 1) g) ≡ 64 = length-set frames (d - 1) g ∙ st.0 in
-          let within : d < length (set frames (d - 1) g) = omega arith in
-          let inside : d - 1 < length frames = omega (arith, st.0, in_top.depth) in
-          let other : d - 1 ≢ d = omega (arith, in_top.depth) in
-          let child_at : get_or (set (set frames (d - 1) g) d k) d no_frame ≡ k = get_or-set_same (set frames (d - 1) g) d k no_frame within in
-          let parent_at : get_or (set (set frames (d - 1) g) d k) in_top.below no_frame ≡ g =
-          ap (λ i. get_or (set (set frames (d - 1) g) d k) i no_frame) (sym at) ∙ (get_or-set_other (set frames (d - 1) g) d (d - 1) k no_frame other ∙ get_or-set_same frames (d - 1) g no_frame inside) in
-          let outer = held_set M (set frames (d - 1) g) in_top.below _ in_top.around d k (omega (arith, in_top.depth))
-          (held_set M frames in_top.below _ in_top.around (d - 1) g (omega (arith, at)) in_top.held) in (
+          let split : around s ++ (g ∷ k ∷ []) ≡ (around s ++ (g ∷ [])) ++ (k ∷ []) = sym (append_assoc (around s) (g ∷ []) (k ∷ [])) in (
             inr (underway s calls here.0 here.1, inr (child_known, inr (admits, inr (shallow fits, inr (few s calls here.0 here.1 less, refl))))),
-            (
-              length-set (set frames (d - 1) g) d k ∙ long,
-              subst (λ p. StandsAt M p (applied s (change.Child g k)) (calls ++ (send (start n) ∷ []))) (sym is) (
-                tallied_more s (applied s (change.Child g k)) calls (start n) here.0 refl refl,
-                passed_more calls (start n) ∙ here.1,
-                here.2,
-                record {
-                  levels = fresh_level ∷ (in_top.level ∷ in_top.around);
-                  outermost = in_top.outermost;
-                  led = after_events (start n) (fresh_level ∷ (in_top.level ∷ in_top.around)) (child_led n child_known child_read.0);
-                  alive = child_alive n child_known child_read.0;
-                  held = (
-                    d,
-                    omega arith,
-                    subst (λ x. Reads M x fresh_level []) (sym child_at) (reads_opened M n k open-frame),
-                    (
-                      in_top.below,
-                      in_top.depth,
-                      subst (λ x. Reads M x in_top.level (Element n ∷ [])) (sym parent_at) child_read.1,
-                      outer,
-                    ),
-                  );
-                  fits = omega arith;
-                },
-              ),
+            subst (λ p. StandsAt M p (applied s (change.Child g k)) (calls ++ (send (start n) ∷ []))) (sym is) (
+              tallied_more s (applied s (change.Child g k)) calls (start n) here.0 refl refl,
+              passed_more calls (start n) ∙ here.1,
+              here.2,
+              record {
+                levels = fresh_level ∷ (in_top.level ∷ in_top.around);
+                outermost = in_top.outermost;
+                led = after_events (start n) (fresh_level ∷ (in_top.level ∷ in_top.around)) (child_led n child_known child_read.0);
+                alive = child_alive n child_known child_read.0;
+                held = (
+                  around s ++ (g ∷ []),
+                  k,
+                  split,
+                  reads_opened M n k open-frame,
+                  (in_top.front, g, ap (λ fs. fs ++ (g ∷ [])) around_is, child_read.1, in_top.held),
+                );
+              },
             ),
           )
 
@@ -374,35 +359,20 @@ module _ (M : Meaning) where
       text_right_cons : s.count < 1000000 → Right M.contents M.values calls (send (text (b ∷ bs))) accepted × Stands M (applied s (change.Text g)) (calls ++ (send (text (b ∷ bs)) ∷ []))
       unfolding more
       text_right_cons less =
-          let frames = s.frames in
-          let d = s.depth in
           let e = text (b ∷ bs) in
-          let longer : Level = record { number = in_top.level.number; done = join in_top.level.done (piece b bs none) } in
-          let at : d - 1 ≡ in_top.below = omega (arith, in_top.depth) in
-          let inside : in_top.below < length frames = omega (arith, st.0, in_top.depth, here.3.fits) in
-          let written : get_or (set frames (d - 1) g) in_top.below no_frame ≡ g =
-          ap (λ i. get_or (set frames i g) in_top.below no_frame) at ∙ get_or-set_same frames in_top.below g no_frame inside in (
+          let longer : Level = record { number = in_top.level.number; done = join in_top.level.done (piece b bs none) } in (
             inr (underway s calls here.0 here.1, inr (tt, inr (text_admits, inr (few s calls here.0 here.1 less, refl)))),
-            (
-              length-set frames (d - 1) g ∙ st.0,
-              subst (λ p. StandsAt M p (applied s (change.Text g)) (calls ++ (send e ∷ []))) (sym is) (
-                tallied_more s (applied s (change.Text g)) calls e here.0 refl refl,
-                passed_more calls e ∙ here.1,
-                here.2,
-                record {
-                  levels = longer ∷ in_top.around;
-                  outermost = text_outermost b bs bytes text_read.0 text_read.1;
-                  led = after_events e (longer ∷ in_top.around) (text_led b bs bytes text_read.0 text_read.1);
-                  alive = text_alive b bs bytes text_read.0 text_read.1;
-                  held = (
-                    in_top.below,
-                    in_top.depth,
-                    subst (λ x. Reads M x longer []) (sym written) text_read.2,
-                    held_set M frames in_top.below _ in_top.around (d - 1) g (omega (arith, at)) in_top.held,
-                  );
-                  fits = here.3.fits;
-                },
-              ),
+            subst (λ p. StandsAt M p (applied s (change.Text g)) (calls ++ (send e ∷ []))) (sym is) (
+              tallied_more s (applied s (change.Text g)) calls e here.0 refl refl,
+              passed_more calls e ∙ here.1,
+              here.2,
+              record {
+                levels = longer ∷ in_top.around;
+                outermost = text_outermost b bs bytes text_read.0 text_read.1;
+                led = after_events e (longer ∷ in_top.around) (text_led b bs bytes text_read.0 text_read.1);
+                alive = text_alive b bs bytes text_read.0 text_read.1;
+                held = (in_top.front, g, ap (λ fs. fs ++ (g ∷ [])) around_is, text_read.2, in_top.held);
+              },
             ),
           )
 
@@ -433,12 +403,15 @@ module _ (M : Meaning) where
 
       -- What the end leaves: the whole document, or the elements around with one child more.
       Left : List Level → Type 0
-      Left ls = (e : Event) → e ≡ end in_top.level.number → Held M s.frames in_top.below (Element in_top.level.number ∷ []) ls →
+      Left ls = (e : Event) → e ≡ end in_top.level.number → Held M in_top.front (Element in_top.level.number ∷ []) ls →
           Outermost s.root (in_top.level ∷ ls) → Alive M.contents M.values [] (in_top.level ∷ ls) → events (calls ++ (send e ∷ [])) ≡ opened (in_top.level ∷ ls) ++ (e ∷ []) →
           BeginsDocument M.contents M.values s.root (opened (in_top.level ∷ ls) ++ (e ∷ [])) × Stands M (applied s change.End) (calls ++ (send e ∷ []))
 
       ended_tally : (e : Event) → Tallied M (applied s change.End) (calls ++ (send e ∷ []))
       ended_tally e = tallied_more s (applied s change.End) calls e here.0 refl refl
+
+      behind : depth s - 1 ≡ length in_top.front
+      behind = ap (λ fs. length fs - 1) in_top.split ∙ (ap (λ n. n - 1) (length_push in_top.front f) ∙ omega arith)
 
       left : (ls : List Level) → Left ls
       unfolding Left
@@ -447,39 +420,32 @@ module _ (M : Meaning) where
           let whole : traversal s.root l.done ≡ opened (l ∷ []) ++ (e ∷ []) =
           ap (λ m. traversal m l.done) (sym outermost) ∙ (opened_whole l ∙ ap (λ x. opened (l ∷ []) ++ (x ∷ [])) (sym is-end)) in
           let valid : Valid M.contents M.values s.root l.done = subst (λ m. Valid M.contents M.values m l.done) outermost (fitting, alive.0.below) in
-          let bare : s.depth - 1 ≡ 0 = omega (arith, in_top.depth, held) in (
+          let bare : depth s - 1 ≡ 0 = behind ∙ ap length held in (
             (l.done, [], valid, whole ∙ sym (append-nil _)),
-            (
-              st.0,
-              subst (λ p. StandsAt M p (applied s change.End) (calls ++ (send e ∷ []))) (ap (λ d. phase_at d s.phase) (sym bare))
-                  (ended_tally e, passed_more calls e ∙ here.1, (l.done, valid, whole ∙ sym led)),
-            ),
+            subst (λ p. StandsAt M p (applied s change.End) (calls ++ (send e ∷ []))) (ap (λ d. phase_at d s.phase) (sym bare))
+                (ended_tally e, passed_more calls e ∙ here.1, (l.done, valid, whole ∙ sym led)),
           )
-      left (m ∷ ls) e is-end (under, deep, reads, held) outermost alive led =
+      left (m ∷ ls) e is-end (under, g, split, reads, held) outermost alive led =
           let l = in_top.level in
           let grown : Level = record { number = m.number; done = join m.done (child l.number l.done none) } in
           let still : Alive M.contents M.values [] (grown ∷ ls) = alive_end M.contents M.values l m ls alive fitting.content fitting.value in
           let outer : Outermost s.root (grown ∷ ls) = outermost_same s.root m.number m.done (join m.done (child l.number l.done none)) ls outermost in
           let told : opened (grown ∷ ls) ≡ opened (l ∷ (m ∷ ls)) ++ (e ∷ []) =
           opened_end l m ls ∙ ap (λ x. opened (l ∷ (m ∷ ls)) ++ (x ∷ [])) (sym is-end) in
-          let at : s.depth - 1 ≡ suc under = omega (arith, in_top.depth, deep) in
-          let stays : phase.Open ≡ phase_at (s.depth - 1) s.phase = sym is ∙ (sym (stays_open under s.phase) ∙ ap (λ d. phase_at d s.phase) (sym at)) in (
+          let at : depth s - 1 ≡ suc (length under) = behind ∙ (ap length split ∙ (length_push under g ∙ omega arith)) in
+          let stays : phase.Open ≡ phase_at (depth s - 1) s.phase = sym is ∙ (sym (stays_open (length under) s.phase) ∙ ap (λ d. phase_at d s.phase) (sym at)) in (
             subst (BeginsDocument M.contents M.values s.root) told (completes M.contents M.values here.2 s.root (grown ∷ ls) outer still),
-            (
-              st.0,
-              subst (λ p. StandsAt M p (applied s change.End) (calls ++ (send e ∷ []))) stays (
-                ended_tally e,
-                passed_more calls e ∙ here.1,
-                here.2,
-                record {
-                  levels = grown ∷ ls;
-                  outermost = outer;
-                  led = led ∙ sym told;
-                  alive = still;
-                  held = (under, at, reads_child M (get_or s.frames under no_frame) m l.number l.done reads, held);
-                  fits = omega (arith, here.3.fits);
-                },
-              ),
+            subst (λ p. StandsAt M p (applied s change.End) (calls ++ (send e ∷ []))) stays (
+              ended_tally e,
+              passed_more calls e ∙ here.1,
+              here.2,
+              record {
+                levels = grown ∷ ls;
+                outermost = outer;
+                led = led ∙ sym told;
+                alive = still;
+                held = (under, g, around_is ∙ split, reads_child M g m l.number l.done reads, held);
+              },
             ),
           )
 

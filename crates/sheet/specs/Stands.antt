@@ -1,5 +1,5 @@
 -- What the state of a sheet stands for: the calls that were accepted so far.
-use Rattle.std.specs.Prelude.{◌≡◌, ℕ, suc, ◌≤◌, true, false, List, [], ◌∷◌, ◌++◌, length, Some, None, Ok, Err, Option, Result, slice_index_or}
+use Rattle.std.specs.Prelude.{◌≡◌, ℕ, true, false, List, [], ◌∷◌, ◌++◌, length, Some, None, Ok, Err, Option, Result}
 use Rattle.engine.specs.Languages.{Language, Empty, Inhabited, Same, residue}
 use Rattle.engine.specs.Trees.{letters, joined, Declared, Event}
 use Rattle.engine.specs.declared.alphabet.Letter.{Letter}
@@ -9,7 +9,7 @@ use Rattle.frames.specs.Agreements.{Agreed}
 use Rattle.sheet.specs.Histories.{Call, send, keep, root, events, passed}
 use Rattle.sheet.specs.Levels.{Level, opened, Outermost, Alive}
 use Rattle.sheet.specs.Questions.{IsDocument, Right}
-use Rattle.sheet.specs.States.{applied, no_frame, Fitting}
+use Rattle.sheet.specs.States.{applied, Fitting}
 use Rattle.calls.specs.declared.answer.Refusal.{Refusal}
 use Rattle.frames.specs.declared.frame.Frame.{Frame}
 use Rattle.frames.specs.Meanings.{Meaning}
@@ -32,12 +32,12 @@ module _ (M : Meaning) where
     pub content : Same (M.content_rests l.number frame.content) (residue (M.contents l.number) (letters l.done ++ pending))
     pub value : ReadsValue (M.values l.number) (M.value_rests l.number) (joined l.done) frame.value
 
-  -- The first frames, as many as there are open elements, stand for these, the innermost last.
-  abbrev pub Held : List Frame → ℕ → List Letter → List Level → Type 0
-  Held frames depth pending [] = depth ≡ 0
-  Held frames depth pending (l ∷ ls) =
-      (below : ℕ) × (depth ≡ suc below) × Reads (slice_index_or frames below no_frame) l pending
-      × Held frames below (Element l.number ∷ []) ls
+  -- The frames stand for these open elements: the last frame for the innermost one, which comes first.
+  abbrev pub Held : List Frame → List Letter → List Level → Type 0
+  Held frames pending [] = frames ≡ []
+  Held frames pending (l ∷ ls) =
+      (front : List Frame) × (frame : Frame) × (frames ≡ front ++ (frame ∷ [])) × Reads frame l pending
+      × Held front (Element l.number ∷ []) ls
 
   -- The root begun with and the number of accepted events.
   pub record Tallied (s : State) (calls : List Call) : Type 0 where
@@ -50,8 +50,7 @@ module _ (M : Meaning) where
     pub outermost : Outermost s.root levels
     pub led : events calls ≡ opened levels
     pub alive : Alive M.contents M.values [] levels
-    pub held : Held s.frames s.depth [] levels
-    pub fits : s.depth ≤ 64
+    pub held : Held s.frames.items [] levels
 
   abbrev pub StandsAt : Phase → State → List Call → Type 0
   StandsAt phase.Fresh s calls = (calls ≡ []) × (s.count ≡ 0)
@@ -62,7 +61,7 @@ module _ (M : Meaning) where
 
   -- The state stands for these accepted calls.
   abbrev pub Stands : State → List Call → Type 0
-  Stands s calls = (length s.frames ≡ 64) × StandsAt s.phase s calls
+  Stands s calls = StandsAt s.phase s calls
 
   -- What a call does to the state: the reply is right for whatever the sheet stood for, the sheet then stands for
   -- that and the call if it was accepted, and a refused call leaves it as it was.

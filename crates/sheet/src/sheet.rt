@@ -17,7 +17,7 @@ ghost use Rattle.sheet.specs.declared.state.Phase.TheVariants.{Begun, Open};
 
 use super::expected::Expected;
 use super::pass::Pass;
-use super::state::{Change, MAX_DEPTH, MAX_EVENTS, Phase, State};
+use super::state::{Change, MAX_EVENTS, Phase, State};
 use bits::with;
 use calls::{Answer, Call, Event, Granted, Refusal};
 use engine::{Content, Engine, Letter};
@@ -95,7 +95,7 @@ impl<'e, C: Content, V: Engine<Letter = u8>> Sheet<'e, C, V> {
         let Some(parent) = self.engines.read_letter(top, Letter::Element(number)) else {
             return Err(Refusal::Offending);
         };
-        if self.state.depth >= MAX_DEPTH {
+        if self.state.frames.is_full() {
             return Err(Refusal::TooDeep);
         }
         if self.state.count >= MAX_EVENTS {

@@ -6,11 +6,11 @@ pub returns-in_default : goal.returns-in_default
 returns-in_default g c is calls st =
     let M = meaning g.C.Engine g.V.Engine c.args.self.now.engines in
     let s = c.args.self.now.state in
-    expects_top M s calls is st c.in_default.ensures
+    expects_top M s calls is st c.in_default.ensures.last
 
 pub returns : goal.returns
 returns g c is calls st =
     let M = meaning g.C.Engine g.V.Engine c.args.self.now.engines in
     let s = c.args.self.now.state in
-    expects_inside M s calls c.in-Some.top is c.in-Some.ensures.2 st c.next_letters.result c.is_complete.result
+    expects_inside M s calls c.in-Some.top is c.in-Some.ensures.last st c.next_letters.result c.is_complete.result
     c.next_letters.ensures.text c.next_letters.ensures.starts c.is_complete.ensures
