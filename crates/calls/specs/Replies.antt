@@ -1,7 +1,7 @@
 -- Every answer of a sheet, shown case by case: accepted, refused by a number, or a pass with its two numbers.
-use Rattle.std.specs.Prelude.{Bool, true, false, ℕ}
-use Rattle.calls.specs.declared.answer.Answer.{Answer}
-use Rattle.calls.specs.declared.answer.Answer.TheVariants.{Accepted, Refused, Passed}
+use Rattle.std.specs.Prelude.{ℕ, Bool, true, false, Ok, Err, Result}
+use Rattle.calls.specs.declared.answer.Granted.{Granted}
+use Rattle.calls.specs.declared.answer.Granted.TheVariants.{Accepted, Passed}
 use Rattle.calls.specs.declared.answer.Refusal.{Refusal}
 use Rattle.calls.specs.declared.answer.Refusal.TheVariants.{NotFresh, RootUndeclared, ValueNotPlain, NotUnderway, NotKnown, Offending, TooDeep, TooMany, RootOpen}
 
@@ -22,11 +22,15 @@ number TooDeep = 37
 number TooMany = 38
 number RootOpen = 39
 
+-- A recorded answer.
+abbrev pub Recorded : Type 0
+Recorded = Result Granted Refusal
+
 -- What a recorded answer says.
-abbrev pub shown : Answer → Reply
-shown Accepted = accepted
-shown (Refused r) = refused (number r)
-shown (Passed root events) = pass root events
+abbrev pub shown : Recorded → Reply
+shown (Ok Accepted) = accepted
+shown (Ok (Passed root events)) = pass root events
+shown (Err r) = refused (number r)
 
 -- Whether the reply is a refusal.
 abbrev pub IsRefused : Reply → Bool

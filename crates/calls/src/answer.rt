@@ -1,7 +1,10 @@
 // What a sheet answers: refusals by their numbers, and the answers of a recorded history.
 
-ghost use Rattle.std.specs.Prelude.{◌≡◌};
-ghost use Rattle.calls.specs.Replies.{IsRefused, number, shown};
+ghost use Rattle.std.specs.Fmt.{decimal};
+ghost use Rattle.std.specs.Prelude.{◌≡◌, ◌++◌, codes, Some};
+ghost use Rattle.calls.specs.Replies.{number};
+
+use std::fmt;
 
 // A refusal; each case has the number of the question that got a no.
 #[derive(Clone, Copy, PartialEq, Eq, Debug)]
@@ -25,21 +28,21 @@ impl Refusal {
     }
 }
 
-// The answer to one call of a recorded history.
+impl fmt::Display for Refusal {
+    ghost output = { λ refusal. Some (codes "refused " ++ decimal (number refusal)) };
+
+    fn fmt<W: fmt::Write>(&self, f: &mut fmt::Formatter<W>) -> fmt::Result {
+        let number = self.number();
+        write!(f, "refused {number}")
+    }
+}
+
+// What a call gets that is not refused: it is accepted, or, as a finish, gives the pass with its two numbers.
 #[derive(Clone, Copy, PartialEq, Eq, Debug)]
-pub enum Answer {
+pub enum Granted {
     Accepted,
-    Refused(Refusal),
     Passed { root: u8, events: u32 },
 }
 
-impl Answer {
-    pub fn is_refused(self) -> bool
-        ensures { result ≡ IsRefused (shown self) }
-    {
-        match self {
-            Answer::Refused(_) => true,
-            _ => false,
-        }
-    }
-}
+// The answer to one call of a recorded history.
+pub type Answer = Result<Granted, Refusal>;

@@ -10,24 +10,30 @@ pub enum Event<'a> {
     End(u8),
 }
 
-impl<'a> Event<'a> {
-    pub fn starting(number: u8) -> Event<'a>
-        ensures { result ≡ Event.Start number }
-    {
-        Event::Start(number)
-    }
-
-    pub fn ending(number: u8) -> Event<'a>
-        ensures { result ≡ Event.End number }
-    {
-        Event::End(number)
-    }
-}
-
 // A call on a sheet.
 #[derive(Clone, Copy)]
 pub enum Call<'a> {
     Begin(u8),
     Send(Event<'a>),
     Finish,
+}
+
+impl<'a> Call<'a> {
+    pub fn start(number: u8) -> Call<'a>
+        ensures { result ≡ Call.Send (Event.Start number) }
+    {
+        Call::Send(Event::Start(number))
+    }
+
+    pub fn text(bytes: &'a [u8]) -> Call<'a>
+        ensures { result ≡ Call.Send (Event.Text bytes.entry) }
+    {
+        Call::Send(Event::Text(bytes))
+    }
+
+    pub fn end(number: u8) -> Call<'a>
+        ensures { result ≡ Call.Send (Event.End number) }
+    {
+        Call::Send(Event::End(number))
+    }
 }

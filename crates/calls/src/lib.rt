@@ -6,5 +6,5 @@
 mod answer;
 mod call;
 
-pub use answer::{Answer, Refusal};
+pub use answer::{Answer, Granted, Refusal};
 pub use call::{Call, Event};

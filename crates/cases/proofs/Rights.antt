@@ -3,9 +3,9 @@ use Rattle.std.proofs.Common.{◌≡◌, ℕ, ◌+◌, ◌<◌, ◌≤◌, false
 use Rattle.engine.specs.Languages.{Language}
 use Rattle.engine.specs.Trees.{Forest, Valid, Declared, Event, start, text, end, traversal}
 use Rattle.engine.specs.declared.alphabet.Letter.{Letter}
+use Rattle.calls.specs.Replies.{accepted, refused}
 use Rattle.sheet.specs.Histories.{Call, begin, send, Turn, root, events, passed, starts}
 use Rattle.sheet.specs.Questions.{BeginsDocument, Known, Underway, Admitted, ValuesPlain, Right}
-use Rattle.sheet.specs.Replies.{accepted, refused}
 use Rattle.sheet.specs.Theorem.{RightAfter}
 use Rattle.sheet.proofs.Balance.{begins_known}
 use Rattle.sheet.proofs.Calls.{root_more, events_more, passed_more}

@@ -2,13 +2,13 @@
 use Rattle.std.proofs.Common.{◌≡◌, ℕ, List, [], ◌∷◌, ◌++◌, take, drop, replicate, refl, inl, inr, arith}
 use Rattle.engine.specs.Trees.{none, Event, start, text, end, Valid, no_values}
 use Rattle.engine.specs.Languages.{Language}
+use Rattle.calls.specs.Replies.{refused}
 use Rattle.bakery.specs.Contents.{Holds}
 use Rattle.bakery.specs.Values.{Reads}
 use Rattle.bakery.specs.Week.{week, week_events}
 use Rattle.bakery.proofs.ContentLaws.{contents_law}
 use Rattle.bakery.proofs.Weeks.{week_valid}
 use Rattle.sheet.specs.Histories.{Call, begin, send, finish, Turn}
-use Rattle.sheet.specs.Replies.{refused}
 use Rattle.sheet.specs.Levels.{Level}
 use Rattle.sheet.specs.Questions.{BeginsDocument, ValuesPlain}
 use Rattle.sheet.specs.Theorem.{RightThroughout, RightAfter}

@@ -2,22 +2,21 @@
 use Rattle.std.specs.Prelude.{◌≡◌, ℕ, List, [], ◌∷◌, ◌++◌, length, take, drop}
 use Rattle.engine.specs.Languages.{Language}
 use Rattle.engine.specs.declared.alphabet.Letter.{Letter}
+use Rattle.calls.specs.Replies.{Recorded, shown}
 use Rattle.sheet.specs.Histories.{Call, Turn}
-use Rattle.sheet.specs.Replies.{shown}
 use Rattle.sheet.specs.Theorem.{RightThroughout}
-use Rattle.sheet.specs.declared.answer.Answer.{Answer}
 
 -- Each call with its answer, as far as both lists go.
-abbrev pub history : List Call → List Answer → List Turn
+abbrev pub history : List Call → List Recorded → List Turn
 history [] answers = []
 history (c ∷ calls) [] = []
 history (c ∷ calls) (a ∷ answers) = record { call = c; reply = shown a } ∷ history calls answers
 
 -- There is an answer to each of the calls, and each is the right one.
-pub record Answered (C : ℕ → Language Letter) (V : ℕ → Language ℕ) (calls : List Call) (answers : List Answer) : Type 0 where
+pub record Answered (C : ℕ → Language Letter) (V : ℕ → Language ℕ) (calls : List Call) (answers : List Recorded) : Type 0 where
   pub all : length answers ≡ length calls
   pub right : RightThroughout C V (history calls answers)
 
 -- The slice with the answers in its first places, as many as it has; its places past them are as before.
-abbrev pub laid : List Answer → List Answer → List Answer
+abbrev pub laid : List Recorded → List Recorded → List Recorded
 laid answers slice = take (length slice) answers ++ drop (length answers) slice

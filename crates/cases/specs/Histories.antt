@@ -2,10 +2,10 @@
 use Rattle.std.specs.Prelude.{◌≡◌, ℕ, List, [], ◌∷◌, ◌++◌}
 use Rattle.engine.specs.Languages.{Language}
 use Rattle.engine.specs.Trees.{Valid, Event, traversal}
+use Rattle.calls.specs.Replies.{accepted, pass}
 use Rattle.bakery.specs.Contents.{Holds}
 use Rattle.bakery.specs.Week.{week, week_events}
 use Rattle.sheet.specs.Histories.{Call, begin, send, finish, Turn}
-use Rattle.sheet.specs.Replies.{accepted, pass}
 use Rattle.sheet.specs.Theorem.{RightThroughout}
 
 -- The events, each sent by a call.

@@ -1,13 +1,13 @@
 -- Three lists of calls with the right answers to them.
-use Rattle.std.specs.Prelude.{List, [], ◌∷◌, ◌++◌, replicate}
+use Rattle.std.specs.Prelude.{List, [], ◌∷◌, ◌++◌, replicate, Ok, Err}
 use Rattle.engine.specs.Trees.{Event, start, text, end, no_values}
 use Rattle.bakery.specs.Contents.{Holds}
 use Rattle.bakery.specs.Values.{Reads}
 use Rattle.bakery.specs.Week.{week_events}
 use Rattle.sheet.specs.Histories.{Call, begin, finish}
-use Rattle.sheet.specs.declared.answer.Answer.{Answer}
-use Rattle.sheet.specs.declared.answer.Answer.TheVariants.{Accepted, Refused, Passed}
-use Rattle.sheet.specs.declared.answer.Refusal.TheVariants.{Offending, RootOpen}
+use Rattle.calls.specs.Replies.{Recorded}
+use Rattle.calls.specs.declared.answer.Granted.TheVariants.{Accepted, Passed}
+use Rattle.calls.specs.declared.answer.Refusal.TheVariants.{Offending, RootOpen}
 use Rattle.cases.specs.Answers.{Answered}
 use Rattle.cases.specs.Histories.{sends}
 
@@ -25,13 +25,13 @@ comma_events =
     ∷ []
 
 -- Where no text has to read as anything, that is a valid document.
-abbrev pub comma_passes : List Answer
-comma_passes = replicate 10 Accepted ++ (Passed 1 9 ∷ [])
+abbrev pub comma_passes : List Recorded
+comma_passes = replicate 10 (Ok Accepted) ++ (Ok (Passed 1 9) ∷ [])
 
 -- Where hours are written with a point, the text is refused, the hours then cannot end, and nothing else
 -- goes on inside them.
-abbrev pub comma_offends : List Answer
-comma_offends = replicate 4 Accepted ++ replicate 6 (Refused Offending) ++ (Refused RootOpen ∷ [])
+abbrev pub comma_offends : List Recorded
+comma_offends = replicate 4 (Ok Accepted) ++ replicate 6 (Err Offending) ++ (Err RootOpen ∷ [])
 
 -- One list of calls is answered with a pass over one pair of languages and with 36 over another.
 pub record ToldApart : Type 0 where
@@ -50,12 +50,12 @@ late_events =
     ∷ []
 
 -- The correction is refused; the sheet ends without it and gets its pass.
-abbrev pub late_answers : List Answer
-late_answers = replicate 14 Accepted ++ (Refused Offending ∷ Accepted ∷ Passed 1 14 ∷ [])
+abbrev pub late_answers : List Recorded
+late_answers = replicate 14 (Ok Accepted) ++ (Err Offending ∷ Ok Accepted ∷ Ok (Passed 1 14) ∷ [])
 
 -- The week with its correction before the lock is accepted throughout, and finish gives the pass.
-abbrev pub mended_answers : List Answer
-mended_answers = replicate 20 Accepted ++ (Passed 1 19 ∷ [])
+abbrev pub mended_answers : List Recorded
+mended_answers = replicate 20 (Ok Accepted) ++ (Ok (Passed 1 19) ∷ [])
 
 -- A correction behind the lock is refused, and the mended week passes with it.
 pub record Mended : Type 0 where

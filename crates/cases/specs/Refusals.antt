@@ -4,10 +4,10 @@ use Rattle.engine.specs.Languages.{Language}
 use Rattle.engine.specs.Trees.{start, Contents, no_values}
 use Rattle.engine.specs.declared.alphabet.Letter.{Letter}
 use Rattle.engine.specs.declared.alphabet.Letter.TheVariants.{Element}
+use Rattle.calls.specs.Replies.{refused}
 use Rattle.bakery.specs.Contents.{Holds}
 use Rattle.bakery.specs.Values.{Reads}
 use Rattle.sheet.specs.Histories.{Call, begin, send, finish}
-use Rattle.sheet.specs.Replies.{refused}
 use Rattle.sheet.specs.Theorem.{RightThroughout}
 use Rattle.cases.specs.Histories.{accepting}
 

@@ -3,7 +3,6 @@
 
 #![tactic(auto)]
 
-mod calls;
 mod instances;
 mod lists;
 

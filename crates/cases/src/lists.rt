@@ -1,26 +1,26 @@
 // Lists of calls played over the bakery's engines, with the answers by value.
 
 ghost use Rattle.std.specs.Prelude.{◌≡◌, List, map};
+ghost use Rattle.calls.specs.Replies.{Recorded};
 ghost use Rattle.cases.specs.Answers.{Answered, laid};
 ghost use Rattle.cases.specs.Lists.{Mended, ToldApart, comma_offends, comma_passes, late_answers, mended_answers};
+ghost use Rattle.frames.specs.Meanings.{meaning};
 ghost use Rattle.sheet.specs.Histories as histories;
 ghost use Rattle.sheet.specs.Said.{sent};
 
-use super::calls::{end, start, text};
 use bakery::{CORRECTION, HOURS, LOCK, SHEET, SHIFT, agreement, hours_values, no_values};
 use engine::{Content, Engine};
-use sheet::{Answer, Call, play};
+use sheet::{Answer, Call, Engines, play};
 
 // Plays the calls. Whatever answers are known to be right for them are those that it leaves in the slice.
-fn play_known<'e, C: Content, V: Engine<Letter = u8>>(
-    content: &'e C,
-    value: &'e V,
+fn play_known<C: Content, V: Engine<Letter = u8>>(
+    engines: Engines<C, V>,
     calls: &[Call],
     answers: &mut [Answer],
 )
-    ensures { (said : List histories.Call) (right : List Answer) → map sent calls.now ≡ said → Answered (C.Engine.language content.now) (V.Engine.language value.now) said right → answers.new ≡ laid right answers.old }
+    ensures { let M = meaning C.Engine V.Engine engines.entry in (said : List histories.Call) (right : List Recorded) → map sent calls.now ≡ said → Answered M.contents M.values said right → answers.new ≡ laid right answers.old }
 {
-    play(content, value, calls, answers);
+    play(engines, calls, answers);
 }
 
 // Sends a sheet whose hours are written `7,5` over two pairs of engines that differ in their values: where
@@ -32,19 +32,28 @@ pub fn told_apart(valued: &mut [Answer], free: &mut [Answer])
 {
     let calls = [
         Call::Begin(SHEET),
-        start(SHEET),
-        start(SHIFT),
-        start(HOURS),
-        text(b"7,5"),
-        end(HOURS),
-        end(SHIFT),
-        start(LOCK),
-        end(LOCK),
-        end(SHEET),
+        Call::start(SHEET),
+        Call::start(SHIFT),
+        Call::start(HOURS),
+        Call::text(b"7,5"),
+        Call::end(HOURS),
+        Call::end(SHIFT),
+        Call::start(LOCK),
+        Call::end(LOCK),
+        Call::end(SHEET),
         Call::Finish,
     ];
-    play_known(&agreement(), &hours_values(), &calls, valued);
-    play_known(&agreement(), &no_values(), &calls, free);
+    let content = &agreement();
+    let dotted = Engines {
+        content,
+        value: &hours_values(),
+    };
+    let silent = Engines {
+        content,
+        value: &no_values(),
+    };
+    play_known(dotted, &calls, valued);
+    play_known(silent, &calls, free);
 }
 
 // Sends the week twice: with its correction behind the lock, where it is refused, and then mended, with the
@@ -64,24 +73,28 @@ fn late_week(answers: &mut [Answer])
 {
     let calls = [
         Call::Begin(SHEET),
-        start(SHEET),
-        start(SHIFT),
-        start(HOURS),
-        text(b"8"),
-        end(HOURS),
-        end(SHIFT),
-        start(SHIFT),
-        start(HOURS),
-        text(b"7.50"),
-        end(HOURS),
-        end(SHIFT),
-        start(LOCK),
-        end(LOCK),
-        start(CORRECTION),
-        end(SHEET),
+        Call::start(SHEET),
+        Call::start(SHIFT),
+        Call::start(HOURS),
+        Call::text(b"8"),
+        Call::end(HOURS),
+        Call::end(SHIFT),
+        Call::start(SHIFT),
+        Call::start(HOURS),
+        Call::text(b"7.50"),
+        Call::end(HOURS),
+        Call::end(SHIFT),
+        Call::start(LOCK),
+        Call::end(LOCK),
+        Call::start(CORRECTION),
+        Call::end(SHEET),
         Call::Finish,
     ];
-    play_known(&agreement(), &hours_values(), &calls, answers);
+    let engines = Engines {
+        content: &agreement(),
+        value: &hours_values(),
+    };
+    play_known(engines, &calls, answers);
 }
 
 // Sends the week with its correction before the lock, where it is accepted.
@@ -90,26 +103,30 @@ fn mended_week(answers: &mut [Answer])
 {
     let calls = [
         Call::Begin(SHEET),
-        start(SHEET),
-        start(SHIFT),
-        start(HOURS),
-        text(b"8"),
-        end(HOURS),
-        end(SHIFT),
-        start(SHIFT),
-        start(HOURS),
-        text(b"7.50"),
-        end(HOURS),
-        end(SHIFT),
-        start(CORRECTION),
-        start(HOURS),
-        text(b"0.25"),
-        end(HOURS),
-        end(CORRECTION),
-        start(LOCK),
-        end(LOCK),
-        end(SHEET),
+        Call::start(SHEET),
+        Call::start(SHIFT),
+        Call::start(HOURS),
+        Call::text(b"8"),
+        Call::end(HOURS),
+        Call::end(SHIFT),
+        Call::start(SHIFT),
+        Call::start(HOURS),
+        Call::text(b"7.50"),
+        Call::end(HOURS),
+        Call::end(SHIFT),
+        Call::start(CORRECTION),
+        Call::start(HOURS),
+        Call::text(b"0.25"),
+        Call::end(HOURS),
+        Call::end(CORRECTION),
+        Call::start(LOCK),
+        Call::end(LOCK),
+        Call::end(SHEET),
         Call::Finish,
     ];
-    play_known(&agreement(), &hours_values(), &calls, answers);
+    let engines = Engines {
+        content: &agreement(),
+        value: &hours_values(),
+    };
+    play_known(engines, &calls, answers);
 }

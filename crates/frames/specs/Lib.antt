@@ -1,3 +1,4 @@
 pub mod Agreements
 pub mod Asks
+pub mod Meanings
 pub mod Next

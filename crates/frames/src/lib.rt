@@ -3,12 +3,10 @@
 
 #![tactic(auto)]
 
-mod agreement;
 mod ask;
+mod engines;
 mod frame;
 mod next;
 
-pub use agreement::agrees;
-pub use ask::{is_complete, is_declared, open_frame, read_letter, read_text};
+pub use engines::Engines;
 pub use frame::Frame;
-pub use next::next_letters;

@@ -3,43 +3,65 @@
 ghost use Rattle.std.specs.Prelude.{◌≡◌, ℕ, ◌<◌, ◌≤◌, false, [], ◌∷◌, ◌≢◌};
 ghost use Rattle.bits.specs.Sets.{has};
 ghost use Rattle.engine.specs.Languages.{Decides, Inhabited, residue};
-ghost use Rattle.frames.specs.Next.{ChildGoesOn, TextGoesOn};
+ghost use Rattle.frames.specs.Meanings.{meaning};
+ghost use Rattle.frames.specs.Next.{ChildGoesOn, SomeByte, TextGoesOn};
 
+use super::engines::Engines;
 use super::frame::Frame;
 use bits::with;
 use engine::{Content, Engine, Letter};
+
+impl<'e, C: Content, V: Engine<Letter = u8>> Engines<'e, C, V> {
+    // The set of what may come next: 0 for some text and n for the start of n.
+    pub fn next_letters(&self, frame: Frame) -> u64
+        ensures text { Decides (has result 0) (TextGoesOn (meaning C.Engine V.Engine self.now) frame) }
+        ensures starts { (n : ℕ) → 1 ≤ n → n ≤ 63 → Decides (has result n) (ChildGoesOn (meaning C.Engine V.Engine self.now) frame n) }
+    {
+        let text = self.some_text(frame);
+        with_if(text, self.children(frame), 0)
+    }
+
+    // Whether some text may come next.
+    fn some_text(&self, frame: Frame) -> bool
+        ensures { Decides result (TextGoesOn (meaning C.Engine V.Engine self.now) frame) }
+    {
+        let valued = frame
+            .value
+            .is_none_or(|state| some_byte(self.value, frame.number, state));
+        goes_on(self.content, frame.number, frame.content, Letter::Text) && valued
+    }
+
+    // The set of the elements that may start next.
+    fn children(&self, frame: Frame) -> u64
+        ensures text { has result 0 ≡ false }
+        ensures starts { (n : ℕ) → 1 ≤ n → n ≤ 63 → Decides (has result n) (ChildGoesOn (meaning C.Engine V.Engine self.now) frame n) }
+    {
+        let mut set = 0;
+        for number in 1..64 {
+            let next = goes_on(
+                self.content,
+                frame.number,
+                frame.content,
+                Letter::Element(number),
+            );
+            set = with_if(next, set, number);
+        }
+        set
+    }
+}
 
 // Whether some word goes on from the state with the letter.
 fn goes_on<E: Engine>(engine: &E, number: u8, state: u64, letter: E::Letter) -> bool
     ensures { Decides result (Inhabited (residue (E.Engine.rest engine.now number state) (letter ∷ []))) }
 {
-    match engine.step(number, state, letter) {
-        Some(_) => true,
-        None => false,
-    }
+    engine.step(number, state, letter).is_some()
 }
 
 // Whether some value goes on from the state with a byte.
 fn some_byte<V: Engine<Letter = u8>>(value: &V, number: u8, state: u64) -> bool
-    ensures { Decides result ((b : ℕ) × (b < 256) × Inhabited (residue (V.Engine.rest value.now number state) (b ∷ []))) }
+    ensures { Decides result (SomeByte (V.Engine.rest value.now number state)) }
 {
-    for byte in 0..256u16 {
-        if goes_on(value, number, state, byte as u8) {
-            return true;
-        }
-    }
-    false
-}
-
-// Whether some text may come next.
-fn some_text<C: Content, V: Engine<Letter = u8>>(content: &C, value: &V, frame: Frame) -> bool
-    ensures { Decides result (TextGoesOn (C.Engine.rest content.now) (V.Engine.rest value.now) frame) }
-{
-    let valued = match frame.value {
-        None => true,
-        Some(state) => some_byte(value, frame.number, state),
-    };
-    goes_on(content, frame.number, frame.content, Letter::Text) && valued
+    (0..256u16).any(|byte| goes_on(value, number, state, byte as u8))
 }
 
 // The set, with one number more if that is wanted.
@@ -48,31 +70,4 @@ fn with_if(wanted: bool, set: u64, number: u8) -> u64
     ensures others { (q : ℕ) → (q ≢ number) → has result q ≡ has set q }
 {
     if wanted { with(set, number) } else { set }
-}
-
-// The set of the elements that may start next.
-fn children<C: Content>(content: &C, frame: Frame) -> u64
-    ensures text { has result 0 ≡ false }
-    ensures starts { (n : ℕ) → 1 ≤ n → n ≤ 63 → Decides (has result n) (ChildGoesOn (C.Engine.rest content.now) frame n) }
-{
-    let mut set = 0;
-    for number in 1..64 {
-        let next = goes_on(
-            content,
-            frame.number,
-            frame.content,
-            Letter::Element(number),
-        );
-        set = with_if(next, set, number);
-    }
-    set
-}
-
-// The set of what may come next: 0 for some text and n for the start of n.
-pub fn next_letters<C: Content, V: Engine<Letter = u8>>(content: &C, value: &V, frame: Frame) -> u64
-    ensures text { Decides (has result 0) (TextGoesOn (C.Engine.rest content.now) (V.Engine.rest value.now) frame) }
-    ensures starts { (n : ℕ) → 1 ≤ n → n ≤ 63 → Decides (has result n) (ChildGoesOn (C.Engine.rest content.now) frame n) }
-{
-    let text = some_text(content, value, frame);
-    with_if(text, children(content, frame), 0)
 }

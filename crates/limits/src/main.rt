@@ -6,7 +6,7 @@ mod nest;
 
 use bakery::{NoValues, no_values};
 use nest::{NEST, Nest};
-use sheet::{Refusal, Sheet};
+use sheet::{Engines, Refusal, Sheet};
 use std::io;
 
 const TOO_MANY: u32 = 1_000_010;
@@ -14,34 +14,22 @@ const TOO_MANY: u32 = 1_000_010;
 fn print_outcome(rt: &HostRuntime, what: &str, answer: Result<(), Refusal>) -> io::Result<()> {
     match answer {
         Ok(()) => println!(rt; "{what}: accepted"),
-        Err(refusal) => println!(rt; "{what}: refused {}", refusal.number()),
+        Err(refusal) => println!(rt; "{what}: {refusal}"),
     }
 }
 
-// How many starts are accepted in a row, up to a hundred, and what the next is answered.
-fn descend(sheet: &mut Sheet<'_, Nest, NoValues>) -> u32 {
-    let mut deep = 0u32;
-    for _ in 0..100 {
-        if sheet.start(NEST).is_ok() {
-            deep = deep.saturating_add(1);
-        }
-    }
-    deep
+// How many starts in a row are accepted, of a hundred.
+fn descend(sheet: &mut Sheet<'_, Nest, NoValues>) -> usize {
+    (0..100).filter(|_| sheet.start(NEST).is_ok()).count()
 }
 
 // How many texts of one byte are accepted.
-fn fill(sheet: &mut Sheet<'_, Nest, NoValues>) -> u32 {
-    let mut filled = 0u32;
-    for _ in 0..TOO_MANY {
-        if sheet.text(b"x").is_ok() {
-            filled = filled.saturating_add(1);
-        }
-    }
-    filled
+fn fill(sheet: &mut Sheet<'_, Nest, NoValues>) -> usize {
+    (0..TOO_MANY).filter(|_| sheet.text(b"x").is_ok()).count()
 }
 
-fn run_deep<'e>(rt: &HostRuntime, nest: &'e Nest, values: &'e NoValues) -> anyhow::Result<()> {
-    let mut sheet = Sheet::make(nest, values);
+fn run_deep(rt: &HostRuntime, engines: Engines<Nest, NoValues>) -> anyhow::Result<()> {
+    let mut sheet = Sheet::make(engines);
     print_outcome(rt, "begin", sheet.begin(NEST))?;
     println!(rt; "starts accepted: {}", descend(&mut sheet))?;
     print_outcome(rt, "start", sheet.start(NEST))?;
@@ -51,8 +39,8 @@ fn run_deep<'e>(rt: &HostRuntime, nest: &'e Nest, values: &'e NoValues) -> anyho
     Ok(())
 }
 
-fn run_long<'e>(rt: &HostRuntime, nest: &'e Nest, values: &'e NoValues) -> anyhow::Result<()> {
-    let mut sheet = Sheet::make(nest, values);
+fn run_long(rt: &HostRuntime, engines: Engines<Nest, NoValues>) -> anyhow::Result<()> {
+    let mut sheet = Sheet::make(engines);
     print_outcome(rt, "begin", sheet.begin(NEST))?;
     print_outcome(rt, "start", sheet.start(NEST))?;
     println!(rt; "texts accepted: {}", fill(&mut sheet))?;
@@ -63,8 +51,10 @@ fn run_long<'e>(rt: &HostRuntime, nest: &'e Nest, values: &'e NoValues) -> anyho
 }
 
 fn main(rt: HostRuntime) -> anyhow::Result<()> {
-    let nest = Nest {};
-    let values = no_values();
-    run_deep(&rt, &nest, &values)?;
-    run_long(&rt, &nest, &values)
+    let engines = Engines {
+        content: &Nest {},
+        value: &no_values(),
+    };
+    run_deep(&rt, engines)?;
+    run_long(&rt, engines)
 }

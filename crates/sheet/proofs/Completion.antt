@@ -4,7 +4,8 @@ use Rattle.engine.specs.Languages.{Language, Empty, Inhabited, residue, Each}
 use Rattle.engine.specs.Trees.{Forest, none, piece, child, letters, joined, visits, AllValid, Valid, no_values, Declared, Plain, IsText, IsKnown, IsByte, Event, start, text, end, traversal}
 use Rattle.engine.specs.declared.alphabet.Letter.{Letter}
 use Rattle.engine.specs.declared.alphabet.Letter.TheVariants.{Text, Element}
-use Rattle.sheet.specs.Levels.{Level, opened, Outermost, AliveLevel, Alive, Agreed}
+use Rattle.frames.specs.Agreements.{Agreed}
+use Rattle.sheet.specs.Levels.{Level, opened, Outermost, AliveLevel, Alive}
 use Rattle.sheet.specs.Questions.{BeginsDocument}
 use Rattle.sheet.proofs.Forests.{join, letters_join, joined_join, visits_join, join_valid}
 use Rattle.sheet.proofs.Letters.{each_front, each_back, each_both}

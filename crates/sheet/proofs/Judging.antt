@@ -3,9 +3,9 @@ use Rattle.std.proofs.Common.{◌≡◌, ℕ, ◌<◌, false, ◌⊎◌, List, [
 use Rattle.engine.specs.Languages.{Language}
 use Rattle.engine.specs.Trees.{Event, start, text, end}
 use Rattle.engine.specs.declared.alphabet.Letter.{Letter}
-use Rattle.sheet.specs.Histories.{Call, begin, send, finish, Turn, IsRefused, keep, kept_after, kept, root, events, passed, starts, ends}
+use Rattle.calls.specs.Replies.{Reply, accepted, refused, pass, IsRefused}
+use Rattle.sheet.specs.Histories.{Call, begin, send, finish, Turn, keep, kept_after, kept, root, events, passed, starts, ends}
 use Rattle.sheet.specs.Questions.{Question, FirstNo, AllHold, BeginsDocument, IsDocument, depth_questions, questions, number_or_0, granted, Right}
-use Rattle.sheet.specs.Replies.{Reply, accepted, refused, pass}
 use Rattle.sheet.specs.Theorem.{RightAfter, RightThroughout, struck, calls_of, Offends, StandsIn, Passes, Offences, Accepts, Repeats, Judged}
 use Rattle.sheet.proofs.Balance.{begins_known, begins_whole, document_balanced}
 use Rattle.sheet.proofs.Calls.{root_more, events_more, root_finish, events_finish, root_begin, events_begin, right_split}

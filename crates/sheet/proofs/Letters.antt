@@ -1,7 +1,8 @@
 -- What holds of each letter of a word, of its front and of its back.
-use Rattle.std.proofs.Common.{ℕ, suc, ◌<◌, List, [], ◌∷◌, ◌++◌, get_or}
+use Rattle.std.proofs.Common.{ℕ, suc, ◌<◌, List, [], ◌∷◌, ◌++◌, length, get_or, ◌≡◌, Bool, true, false, ◌==◌, sym, ◌∙◌}
 use Rattle.engine.specs.Languages.{Each}
 use Rattle.engine.specs.Trees.{IsByte}
+use Rattle.sheet.specs.Questions.{HasByte}
 
 module _ {A : Type 0} (P : A → Type 0) where
   pub each_front : (u w : List A) → Each P (u ++ w) → Each P u
@@ -20,3 +21,8 @@ module _ {A : Type 0} (P : A → Type 0) where
 pub each_byte : (w : List ℕ) → ((i : ℕ) → get_or w i 0 < 256) → Each IsByte w
 each_byte [] h = tt
 each_byte (b ∷ w) h = (h 0, each_byte w (λ i. h (suc i)))
+
+-- A text that is not empty has a byte.
+pub has_byte : (w : List ℕ) (empty : Bool) → empty ≡ (length w == 0) → empty ≡ false → HasByte w
+has_byte [] empty is not-empty = let z : true ≡ false = sym is ∙ not-empty in cc
+has_byte (b ∷ w) empty is not-empty = tt

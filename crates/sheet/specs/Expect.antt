@@ -1,16 +1,16 @@
 -- What a sheet tells about the events that it would admit next.
-use Rattle.std.specs.Prelude.{◌≡◌, ℕ, ◌<◌, ◌≤◌, Bool, List, [], ◌∷◌, Some, None, Ok, Err, Option, Result, count_ones}
+use Rattle.std.specs.Prelude.{◌≡◌, ℕ, ◌≤◌, Bool, List, Ok, Err, Result}
 use Rattle.bits.specs.Sets.{has}
-use Rattle.engine.specs.Languages.{Language, Inhabited, residue, Decides}
+use Rattle.engine.specs.Languages.{Language, Decides}
 use Rattle.engine.specs.Trees.{Event, start, text, end}
 use Rattle.engine.specs.declared.alphabet.Letter.{Letter}
-use Rattle.engine.specs.declared.alphabet.Letter.TheVariants.{Text}
+use Rattle.calls.specs.Replies.{number}
+use Rattle.frames.specs.Meanings.{Meaning}
 use Rattle.sheet.specs.Histories.{Call}
 use Rattle.sheet.specs.Questions.{Known, Admitted, Underway}
-use Rattle.sheet.specs.Replies.{number}
-use Rattle.sheet.specs.declared.answer.Refusal.{Refusal}
+use Rattle.calls.specs.declared.answer.Refusal.{Refusal}
 use Rattle.sheet.specs.Stands.{Stands}
-use Rattle.sheet.specs.declared.state.Frame.{Frame}
+use Rattle.sheet.specs.declared.expected.Expected.{Expected}
 use Rattle.sheet.specs.declared.state.State.{State}
 
 module _ (C : ℕ → Language Letter) (V : ℕ → Language ℕ) (calls : List Call) where
@@ -25,20 +25,16 @@ module _ (C : ℕ → Language Letter) (V : ℕ → Language ℕ) (calls : List 
     pub starts : (n : ℕ) → 1 ≤ n → n ≤ 63 → Decides (has set n) (Welcome (start n))
     pub ends : Decides end-next ((n : ℕ) × Welcome (end n))
 
-  -- The answer: 34 where the sheet is not underway, and otherwise the set, how many it has, and the test.
-  abbrev pub Expects : Result (ℕ × ℕ × Bool) Refusal → Type 0
+  -- The answer: 34 where the sheet is not underway, and otherwise the set and the test.
+  abbrev pub Expects : Result Expected Refusal → Type 0
   Expects (Err r) = (number r ≡ 34) × (Underway calls → ⊥)
-  Expects (Ok told) = Underway calls × ExpectedNext told.0 told.2 × (told.1 ≡ count_ones told.0)
+  Expects (Ok told) = Underway calls × ExpectedNext told.set told.end
 
--- What the open elements let come next, whatever calls they stand for.
-abbrev pub ExpectsInside : (C : ℕ → Language Letter) (CR : ℕ → ℕ → Language Letter) (V : ℕ → Language ℕ) (VR : ℕ → ℕ → Language ℕ) → State → ℕ × Bool → Type 0
-ExpectsInside C CR V VR s told = (calls : List Call) → Stands C CR V VR s calls → ExpectedNext C V calls told.0 told.1
+module _ (M : Meaning) where
+  -- What the open elements let come next, whatever calls they stand for.
+  abbrev pub ExpectsInside : State → Expected → Type 0
+  ExpectsInside s told = (calls : List Call) → Stands M s calls → ExpectedNext M.contents M.values calls told.set told.end
 
--- Some byte goes on from the value state, or there is no value.
-abbrev pub ValueGoesOn : (ℕ → Language ℕ) → Option ℕ → Type 0
-ValueGoesOn rest None = Unit {0}
-ValueGoesOn rest (Some s) = (b : ℕ) × (b < 256) × Inhabited (residue (rest s) (b ∷ []))
-
--- Some text goes on from the frame.
-abbrev pub TextGoesOn : (ℕ → ℕ → Language Letter) → (ℕ → ℕ → Language ℕ) → Frame → Type 0
-TextGoesOn CR VR f = Inhabited (residue (CR f.number f.content) (Text ∷ [])) × ValueGoesOn (VR f.number) f.value
+  -- What the state lets come next, whatever calls it stands for.
+  abbrev pub Tells : State → Result Expected Refusal → Type 0
+  Tells s told = (calls : List Call) → Stands M s calls → Expects M.contents M.values calls told

@@ -1,7 +1,7 @@
 -- Histories: the calls sent to one sheet with the answers they got, and what was accepted of them.
 use Rattle.std.specs.Prelude.{ℕ, ◌+◌, Bool, true, false, List, [], ◌∷◌, ◌++◌, Some, None, Option}
 use Rattle.engine.specs.Trees.{Event, start, text, end}
-use Rattle.sheet.specs.Replies.{Reply, accepted, refused, pass}
+use Rattle.calls.specs.Replies.{Reply, accepted, refused, pass}
 
 -- A call: begin with a root, an event, or finish.
 pub data Call : Type 0 where
@@ -13,11 +13,6 @@ pub data Call : Type 0 where
 pub record Turn : Type 0 where
   pub call : Call
   pub reply : Reply
-
-abbrev pub IsRefused : Reply → Bool
-IsRefused accepted = false
-IsRefused (refused n) = true
-IsRefused (pass r n) = false
 
 -- The calls so far with one more, which counts unless it was refused.
 abbrev pub keep : List Call → Call → Reply → List Call

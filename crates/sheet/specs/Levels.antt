@@ -1,7 +1,7 @@
 -- Open elements: what has been read of each, and when there is still a way to a valid document.
-use Rattle.std.specs.Prelude.{◌≡◌, ℕ, ◌≤◌, ◌⊎◌, List, [], ◌∷◌, ◌++◌}
-use Rattle.engine.specs.Languages.{Language, Empty, Inhabited, residue, Each}
-use Rattle.engine.specs.Trees.{Forest, letters, joined, visits, AllValid, Plain, Contents, IsByte, Event, start}
+use Rattle.std.specs.Prelude.{◌≡◌, ℕ, ◌⊎◌, List, [], ◌∷◌, ◌++◌}
+use Rattle.engine.specs.Languages.{Language, Empty, Inhabited, residue}
+use Rattle.engine.specs.Trees.{Forest, letters, joined, visits, AllValid, Event, start}
 use Rattle.engine.specs.declared.alphabet.Letter.{Letter}
 use Rattle.engine.specs.declared.alphabet.Letter.TheVariants.{Element}
 
@@ -32,10 +32,3 @@ pub record AliveLevel (C : ℕ → Language Letter) (V : ℕ → Language ℕ) (
 abbrev pub Alive : (ℕ → Language Letter) → (ℕ → Language ℕ) → List Letter → List Level → Type 0
 Alive C V pending [] = Unit {0}
 Alive C V pending (l ∷ ls) = AliveLevel C V pending l × Alive C V (Element l.number ∷ []) ls
-
--- What an accepted begin has found out about the two engines: the law of contents; of each number
--- from 1 to 63, that it has no value language, or has one and is plain; and that values are bytes.
-pub record Agreed (C : ℕ → Language Letter) (V : ℕ → Language ℕ) : Type 0 where
-  pub law : Contents C
-  pub values : (n : ℕ) → 1 ≤ n → n ≤ 63 → Empty (V n) ⊎ (Inhabited (V n) × Plain C n)
-  pub bytes : (n : ℕ) → 1 ≤ n → n ≤ 63 → (w : List ℕ) → V n w → Each IsByte w

@@ -1,7 +1,7 @@
-pub mod Asks
 pub mod Expect
 pub mod Histories
 pub mod Levels
+pub mod Moves
 pub mod Questions
 pub mod Replies
 pub mod Runs

@@ -3,8 +3,8 @@ use Rattle.std.specs.Prelude.{◌≡◌, ℕ, ◌+◌, ◌<◌, ◌≤◌, false
 use Rattle.engine.specs.Languages.{Language, Inhabited}
 use Rattle.engine.specs.Trees.{Forest, Valid, Declared, Plain, Event, start, text, end, traversal}
 use Rattle.engine.specs.declared.alphabet.Letter.{Letter}
+use Rattle.calls.specs.Replies.{Reply, accepted, refused, pass}
 use Rattle.sheet.specs.Histories.{Call, begin, send, finish, root, events, passed, starts, ends}
-use Rattle.sheet.specs.Replies.{Reply, accepted, refused, pass}
 
 -- A question with the number of its refusal.
 pub record Question : Type 1 where

@@ -5,12 +5,12 @@ use Rattle.engine.specs.Trees as trees
 use Rattle.engine.specs.declared.alphabet.Letter.{Letter}
 use Rattle.sheet.specs.Histories as histories
 use Rattle.sheet.specs.Questions.{Known}
-use Rattle.sheet.specs.declared.answer.Refusal.{Refusal}
-use Rattle.sheet.specs.declared.answer.Refusal.TheVariants.{NotKnown, Offending}
-use Rattle.sheet.specs.declared.call.Event.{Event}
-use Rattle.sheet.specs.declared.call.Event.TheVariants.{Start, Text, End}
-use Rattle.sheet.specs.declared.call.Call.{Call}
-use Rattle.sheet.specs.declared.call.Call.TheVariants.{Begin, Send, Finish}
+use Rattle.calls.specs.declared.answer.Refusal.{Refusal}
+use Rattle.calls.specs.declared.answer.Refusal.TheVariants.{NotKnown, Offending}
+use Rattle.calls.specs.declared.call.Event.{Event}
+use Rattle.calls.specs.declared.call.Event.TheVariants.{Start, Text, End}
+use Rattle.calls.specs.declared.call.Call.{Call}
+use Rattle.calls.specs.declared.call.Call.TheVariants.{Begin, Send, Finish}
 
 abbrev pub said : Event → trees.Event
 said (Start n) = trees.start n

@@ -3,9 +3,9 @@ use Rattle.std.specs.Prelude.{◌≡◌, ℕ, true, false, ◌⊎◌, List, [], 
 use Rattle.engine.specs.Languages.{Language}
 use Rattle.engine.specs.Trees.{Forest, Valid, Event, traversal}
 use Rattle.engine.specs.declared.alphabet.Letter.{Letter}
-use Rattle.sheet.specs.Histories.{Call, send, finish, Turn, keep, kept, root, events, passed, IsRefused}
+use Rattle.calls.specs.Replies.{Reply, refused, pass, IsRefused}
+use Rattle.sheet.specs.Histories.{Call, send, finish, Turn, keep, kept, root, events, passed}
 use Rattle.sheet.specs.Questions.{questions, AllHold, Right, BeginsDocument, IsDocument}
-use Rattle.sheet.specs.Replies.{Reply, refused, pass}
 
 -- Every reply of the history is the right one, when these calls were accepted before it.
 abbrev pub RightAfter : (ℕ → Language Letter) → (ℕ → Language ℕ) → List Call → List Turn → Type 0

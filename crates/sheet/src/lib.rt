@@ -2,15 +2,15 @@
 
 #![tactic(auto)]
 
-mod answer;
-mod ask;
-mod call;
-mod foresee;
+mod expected;
+mod pass;
 mod runs;
 mod sheet;
 mod state;
 
-pub use answer::{Answer, Pass, Refusal};
-pub use call::{Call, Event};
+pub use calls::{Answer, Call, Event, Granted, Refusal};
+pub use expected::Expected;
+pub use frames::Engines;
+pub use pass::Pass;
 pub use runs::{play, replay};
 pub use sheet::Sheet;

@@ -1,10 +1,13 @@
 // The state of a sheet, apart from its engines, and the changes that an accepted event makes to it.
 
-ghost use Rattle.std.specs.Prelude.{◌≡◌, ◌-◌, ◌<◌, ◌≤◌, MatchOption, slice_index_or};
-ghost use Rattle.sheet.specs.States.{Fitting, applied, no_frame, fresh};
+ghost use Rattle.std.specs.Prelude.{◌≡◌, ◌-◌, ◌≤◌, length, slice_get};
+ghost use Rattle.sheet.specs.States.{Fitting, applied, fresh};
+
+use arrayvec::ArrayVec;
+use frames::Frame;
 
 // How many elements may be open at once.
-pub const MAX_DEPTH: usize = 64;
+const MAX_DEPTH: usize = 64;
 
 // How many events a sheet accepts.
 pub const MAX_EVENTS: u32 = 1_000_000;
@@ -18,20 +21,6 @@ pub enum Phase {
     Ended,
     Passed,
 }
-
-// An open element: its number, what its content still admits, and what its value does if it has one.
-#[derive(Clone, Copy)]
-pub struct Frame {
-    pub number: u8,
-    pub content: u64,
-    pub value: Option<u64>,
-}
-
-const NO_FRAME: Frame = Frame {
-    number: 0,
-    content: 0,
-    value: None,
-};
 
 // What an accepted event changes: the root opens; a child opens in the innermost element, whose frame has
 // moved on; a text moves the innermost frame on; the innermost element ends.
@@ -49,9 +38,8 @@ pub enum Change {
 pub struct State {
     pub phase: Phase,
     pub root: u8,
-    pub depth: usize,
     pub count: u32,
-    pub frames: [Frame; 64],
+    pub frames: ArrayVec<Frame, MAX_DEPTH>,
 }
 
 impl State {
@@ -61,20 +49,17 @@ impl State {
         State {
             phase: Phase::Fresh,
             root: 0,
-            depth: 0,
             count: 0,
-            frames: [NO_FRAME; 64],
+            frames: ArrayVec::new(),
         }
     }
 
     // The innermost open element.
     pub fn top(&self) -> Option<Frame>
-        ensures { MatchOption result (0 < self.now.depth → self.now.depth ≤ 64 → ⊥) (λ f. (0 < self.now.depth) × (self.now.depth ≤ 64) × (f ≡ slice_index_or self.now.frames (self.now.depth - 1) no_frame)) }
+        ensures last { result ≡ slice_get self.now.frames.items (length self.now.frames.items - 1) }
+        ensures fits { length self.now.frames.items ≤ 64 }
     {
-        if self.depth == 0 || self.depth > MAX_DEPTH {
-            return None;
-        }
-        Some(self.frames[self.depth - 1])
+        self.frames.last().copied()
     }
 
     pub fn apply(&mut self, change: Change)
@@ -84,24 +69,22 @@ impl State {
         self.count += 1;
         match change {
             Change::Root(frame) => {
-                self.frames[0] = frame;
-                self.depth = 1;
+                self.frames.clear();
+                self.frames.push(frame);
                 self.phase = Phase::Open;
             }
             Change::Child { parent, child } => {
-                let depth = self.depth;
-                self.frames[depth - 1] = parent;
-                self.frames[depth] = child;
-                self.depth = depth + 1;
+                self.frames.pop();
+                self.frames.push(parent);
+                self.frames.push(child);
             }
             Change::Text(frame) => {
-                let depth = self.depth;
-                self.frames[depth - 1] = frame;
+                self.frames.pop();
+                self.frames.push(frame);
             }
             Change::End => {
-                let depth = self.depth - 1;
-                self.depth = depth;
-                if depth == 0 {
+                self.frames.pop();
+                if self.frames.is_empty() {
                     self.phase = Phase::Ended;
                 }
             }

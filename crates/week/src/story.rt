@@ -1,7 +1,7 @@
 // The week's calls: what the hub sent, and how the foreman mended it.
 
 use bakery::{CORRECTION, HOURS, LOCK, SHEET, SHIFT, agreement, hours_values};
-use sheet::{Call, Event, Refusal, Sheet};
+use sheet::{Call, Engines, Expected, Refusal, Sheet};
 
 pub const LENGTH: usize = 23;
 
@@ -15,48 +15,38 @@ pub const LOCKED: usize = 20;
 pub fn week_calls<'a>() -> [Call<'a>; LENGTH] {
     [
         Call::Begin(SHEET),
-        start(SHEET),
-        start(SHIFT),
-        start(HOURS),
-        text(b"8"),
-        end(HOURS),
-        end(SHIFT),
-        start(SHIFT),
-        start(HOURS),
-        text(b"7,50"),
-        text(b"7.50"),
-        end(HOURS),
-        end(SHIFT),
-        start(CORRECTION),
-        start(HOURS),
-        text(b"0.25"),
-        end(HOURS),
-        end(CORRECTION),
-        start(LOCK),
-        end(LOCK),
-        start(CORRECTION),
-        end(SHEET),
+        Call::start(SHEET),
+        Call::start(SHIFT),
+        Call::start(HOURS),
+        Call::text(b"8"),
+        Call::end(HOURS),
+        Call::end(SHIFT),
+        Call::start(SHIFT),
+        Call::start(HOURS),
+        Call::text(b"7,50"),
+        Call::text(b"7.50"),
+        Call::end(HOURS),
+        Call::end(SHIFT),
+        Call::start(CORRECTION),
+        Call::start(HOURS),
+        Call::text(b"0.25"),
+        Call::end(HOURS),
+        Call::end(CORRECTION),
+        Call::start(LOCK),
+        Call::end(LOCK),
+        Call::start(CORRECTION),
+        Call::end(SHEET),
         Call::Finish,
     ]
 }
 
-fn start<'a>(number: u8) -> Call<'a> {
-    Call::Send(Event::starting(number))
-}
-
-fn text(bytes: &[u8]) -> Call<'_> {
-    Call::Send(Event::Text(bytes))
-}
-
-fn end<'a>(number: u8) -> Call<'a> {
-    Call::Send(Event::ending(number))
-}
-
 // What a sheet expects after the first of the calls.
-pub fn expected_after(calls: &[Call], sent: usize) -> Result<(u64, u32, bool), Refusal> {
-    let content = agreement();
-    let value = hours_values();
-    let mut sheet = Sheet::make(&content, &value);
+pub fn expected_after(calls: &[Call], sent: usize) -> Result<Expected, Refusal> {
+    let engines = Engines {
+        content: &agreement(),
+        value: &hours_values(),
+    };
+    let mut sheet = Sheet::make(engines);
     for call in calls.iter().take(sent) {
         let _ = sheet.answer(*call);
     }

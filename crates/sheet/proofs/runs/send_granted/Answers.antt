@@ -1,63 +1,84 @@
-use Rattle.std.proofs.Common.{◌+◌, ◌<◌, length, get_or, sym, ap, ◌∙◌, subst₂, arith}
-use Rattle.sheet.specs.Replies.{shown}
+use Rattle.std.proofs.Common.{◌≡◌, ◌+◌, length, set, not, false, Ok, inl, inr, sym, ap, ◌∙◌, subst, subst₂, arith, rules}
+use Rattle.std.proofs.lemmas.List.{length_push}
+use Rattle.frames.specs.Meanings.{meaning}
+use Rattle.calls.specs.Replies.{shown, IsRefused}
+use Rattle.calls.specs.declared.answer.Granted.TheVariants.{Accepted}
+use Rattle.calls.specs.declared.call.Call.TheVariants.{Begin}
+use Rattle.sheet.specs.Runs.{turns}
 use Rattle.sheet.specs.Said.{sent}
-use Rattle.sheet.specs.Stands.{Moves}
-use Rattle.sheet.specs.declared.answer.Answer.TheVariants.{Accepted}
-use Rattle.sheet.specs.declared.call.Call.TheVariants.{Begin}
-use Rattle.sheet.proofs.Replaying.{resent_as, resent_none, resent_refused, resent_full, resent_more, resent_all}
+use Rattle.sheet.specs.Stands.{Moved}
+use Rattle.sheet.specs.Theorem.{RightThroughout}
+use Rattle.sheet.proofs.Replaying.{Resent, Walked, in_front, walked_more, walked_all, refused_unless, resent_none, resent_refused, resent_full, resent_more, resent_all}
 use Rattle.sheet.proofs.runs.send_granted.Goals as goal
-use Rattle.sheet.proofs.runs.send_granted.Goals.{then-not-is_refused+then-sent-again, else-not-is_refused, else-not-is_refused-via-then-not-is_refused+else-sent-again, else-not-is_refused-via-else-not-is_refused}
+use Rattle.sheet.proofs.runs.send_granted.Goals.{else-is_ok-via-then-is_ok+else-sent-again, else-is_ok-via-else-is_ok}
 
-pub loop-i-init : goal.loop-i-init
-loop-i-init g c = (
-  c.make-sheet.ensures.content,
-  c.make-sheet.ensures.value,
-  λ right. resent_none _ _ _ _ c.args.calls.now c.args.answers.now c.args.again.now _ c.make-sheet.ensures.stands,
+pub loop-call-init : goal.loop-call-init
+loop-call-init g c = (
+  record { some = omega arith; room = omega arith; left_is = search rules; told_is = search rules },
+  c.make-sheet.ensures.engines,
+  λ right. resent_none _ c.args.calls.now c.args.answers.now c.args.again.now _ c.make-sheet.ensures.stands,
 )
 
-pub loop-i-preserved : goal.loop-i-preserved
-loop-i-preserved g c =
-    let C = g.C.Engine.language in
-    let CR = g.C.Engine.rest in
-    let V = g.V.Engine.language in
-    let VR = g.V.Engine.rest in
-    let x = c.args.content.now in
-    let y = c.args.value.now in
-    let (same-content, same-value, resent) = c.loop-i.invariant in
+pub loop-call-preserved-then-sent-again : goal.loop-call-preserved-then-sent-again
+loop-call-preserved-then-sent-again g c =
+    let M = meaning g.C.Engine g.V.Engine c.args.engines in
     let calls = c.args.calls.now in
     let answers = c.args.answers.now in
     let before = c.args.again.now in
-    let again = c.loop-i.again in
-    let i = c.loop-i.i in
-    let m = c.loop-i.sent in
-    let s = c.loop-i.sheet.state in
-    let some : i < length calls = omega arith in
-    let room : i < length answers = omega arith in
-    let told = c.is_refused.ensures in
-    elim c.if-not-is_refused.branch [
-      | then-not-is_refused+then-sent-again w ↦
-          let t = w.answer.new.self.state in
-          let moves = subst₂ (λ x y. Moves (C x) (CR x) (V y) (VR y) s t (sent (get_or calls i (Begin 0))) (shown w.answer.result)) same-content same-value w.answer.ensures.moves in (
-            ap (λ sheet. sheet.content.now) w.sheet-is ∙ (ap (λ r. r.now) w.answer.ensures.content ∙ same-content),
-            ap (λ sheet. sheet.value.now) w.sheet-is ∙ (ap (λ r. r.now) w.answer.ensures.value ∙ same-value),
-            λ right. resent_as (C x) (CR x) (V y) (VR y) calls answers before _ (i + 1) (m + 1) t w.again-is w.sent-is (ap (λ sheet. sheet.state) w.sheet-is)
-                (resent_more (C x) (CR x) (V y) (VR y) calls answers before again i m s (Begin 0) Accepted some room t w.answer.result right
-                (sym told ∙ w.if-not-is_refused.true) c.loop-i.auto.again w.if-sent-again.true moves (resent right)),
-          )
-      | else-not-is_refused w ↦ (
-        ap (λ sheet. sheet.content.now) w.sheet-is ∙ same-content,
-        ap (λ sheet. sheet.value.now) w.sheet-is ∙ same-value,
-        λ right. resent_as (C x) (CR x) (V y) (VR y) calls answers before again (i + 1) m s w.again-is w.sent-is (ap (λ sheet. sheet.state) w.sheet-is)
-            (elim w.else-not-is_refused.branch [
-              | else-not-is_refused-via-then-not-is_refused+else-sent-again w' ↦
-                  resent_full (C x) (CR x) (V y) (VR y) calls answers before again i m s (Begin 0) Accepted some room (sym told ∙ w'.if-not-is_refused.true) (omega arith) (resent right)
-              | else-not-is_refused-via-else-not-is_refused w' ↦
-                  resent_refused (C x) (CR x) (V y) (VR y) calls answers before again i m s (Begin 0) Accepted some room (sym told ∙ w'.if-not-is_refused.false) (resent right)
-            ]),
-      )
-    ]
+    let again = c.loop-call.again in
+    let n = length c.loop-call.yielded in
+    let m = c.loop-call.sent in
+    let s = c.loop-call.sheet.state in
+    let t = c.answer.new.self.state in
+    let result = c.answer.result in
+    let (walked, same, resent) = c.loop-call.invariant in
+    let (some, call-at, _) = in_front calls n c.in-Some.call.now _ (sym c.in-Some.ensures.steps.0 ∙ walked.left_is) in
+    let (room, answer-at, _) = in_front answers n c.in-Some.answer.now _ (sym c.in-Some.ensures.steps.1 ∙ walked.told_is) in
+    let stays = refused_unless c.in-Some.answer.now c.is_ok.result c.is_ok.ensures.value in
+    let granted = subst (λ a. IsRefused (shown a) ≡ false) (answer-at (Ok Accepted)) (stays ∙ ap not c.if-is_ok.true) in
+    let moved = subst (λ e. Moved (meaning g.C.Engine g.V.Engine e) s t (sent c.in-Some.call.now) (shown result)) same c.answer.ensures.moved in
+    let told = subst (λ call. Moved M s t (sent call) (shown result)) (call-at (Begin 0)) moved in
+    let next = walked_more calls answers c.next.new.self.a.rest.now c.next.new.self.b.rest.now c.in-Some.call.now c.in-Some.answer.now n
+    (subst₂ (λ left told. Walked calls answers left told n) c.in-Some.ensures.steps.0 c.in-Some.ensures.steps.1 walked) in
+    subst (λ k. Walked calls answers c.next.new.self.a.rest.now c.next.new.self.b.rest.now k × (c.answer.new.self.engines ≡ c.args.engines)
+    × (RightThroughout M.contents M.values (turns calls answers) → Resent M calls answers before (set again m result) k (m + 1) t)) (sym (length_push c.loop-call.yielded _)) (
+      next,
+      c.answer.ensures.engines ∙ same,
+      λ right. resent_more M calls answers before again n m s (Begin 0) (Ok Accepted) some room t result right granted c.loop-call.auto.again c.if-sent-again.true told (resent right),
+    )
+
+pub loop-call-preserved : goal.loop-call-preserved
+loop-call-preserved g c =
+    let M = meaning g.C.Engine g.V.Engine c.args.engines in
+    let calls = c.args.calls.now in
+    let answers = c.args.answers.now in
+    let before = c.args.again.now in
+    let again = c.loop-call.again in
+    let n = length c.loop-call.yielded in
+    let m = c.loop-call.sent in
+    let s = c.loop-call.sheet.state in
+    let (walked, same, resent) = c.loop-call.invariant in
+    let (some, call-at, _) = in_front calls n c.in-Some.call.now _ (sym c.in-Some.ensures.steps.0 ∙ walked.left_is) in
+    let (room, answer-at, _) = in_front answers n c.in-Some.answer.now _ (sym c.in-Some.ensures.steps.1 ∙ walked.told_is) in
+    let stays = subst (λ a. IsRefused (shown a) ≡ not c.is_ok.result) (answer-at (Ok Accepted)) (refused_unless c.in-Some.answer.now c.is_ok.result c.is_ok.ensures.value) in
+    let next = walked_more calls answers c.next.new.self.a.rest.now c.next.new.self.b.rest.now c.in-Some.call.now c.in-Some.answer.now n
+    (subst₂ (λ left told. Walked calls answers left told n) c.in-Some.ensures.steps.0 c.in-Some.ensures.steps.1 walked) in
+    subst (λ k. Walked calls answers c.next.new.self.a.rest.now c.next.new.self.b.rest.now k × (c.loop-call.sheet.engines ≡ c.args.engines)
+    × (RightThroughout M.contents M.values (turns calls answers) → Resent M calls answers before again k m s)) (sym (length_push c.loop-call.yielded _)) (
+      next,
+      same,
+      λ right. elim c.else-is_ok.branch [
+        | else-is_ok-via-then-is_ok+else-sent-again w ↦
+            resent_full M calls answers before again n m s (Begin 0) (Ok Accepted) some room (stays ∙ ap not w.if-is_ok.true) (omega arith) (resent right)
+        | else-is_ok-via-else-is_ok w ↦
+            resent_refused M calls answers before again n m s (Begin 0) (Ok Accepted) some room (stays ∙ ap not w.if-is_ok.false) (resent right)
+      ],
+    )
 
 pub returns : goal.returns
 returns g c right =
-    resent_all _ _ _ _ c.args.calls.now c.args.answers.now c.args.again.now c.loop-i.again c.loop-i.i c.loop-i.sent c.loop-i.sheet.state
-    (omega arith) (c.loop-i.invariant.2 right)
+    let M = meaning g.C.Engine g.V.Engine c.args.engines in
+    let (walked, same, resent) = c.loop-call.invariant in
+    let n = length c.loop-call.yielded in
+    resent_all M c.args.calls.now c.args.answers.now c.args.again.now c.loop-call.again n c.loop-call.sent c.loop-call.sheet.state
+    (walked_all c.args.calls.now c.args.answers.now _ _ n walked (elim c.in-None.ensures.steps [ inl p ↦ inl p.1.0 | inr p ↦ inr p.1.0 ])) (resent right)

@@ -1,44 +1,34 @@
 use Rattle.engine.specs.Trees.{text}
+use Rattle.frames.specs.Meanings.{meaning}
 use Rattle.sheet.specs.Histories.{send}
-use Rattle.sheet.specs.Replies.{refused}
 use Rattle.std.proofs.Common.{arith}
+use Rattle.sheet.proofs.Frames.{not_empty}
+use Rattle.calls.specs.Replies.{refused}
 use mir.Facts.{Fits-lt-pow}
-use Rattle.sheet.proofs.Letters.{each_byte}
+use Rattle.sheet.proofs.Letters.{each_byte, has_byte}
 use Rattle.sheet.proofs.Steps.{has_top, text_offends, text_too_many, text_right}
 use Rattle.sheet.proofs.sheet.Sheet.ask_text.Goals as goal
 
 pub returns-in_default : goal.returns-in_default
 returns-in_default g c is calls st =
-    let C = g.C.Engine.language c.args.self.now.content.now in
-    let CR = g.C.Engine.rest c.args.self.now.content.now in
-    let V = g.V.Engine.language c.args.self.now.value.now in
-    let VR = g.V.Engine.rest c.args.self.now.value.now in
+    let M = meaning g.C.Engine g.V.Engine c.args.self.now.engines in
     let s = c.args.self.now.state in
-    has_top C CR V VR s calls (send (text c.args.bytes.now)) (refused 34) is st c.in_default.ensures
+    has_top M s calls (send (text c.args.bytes.now)) (refused 34) is st c.in_default.ensures.last
 
 pub returns-in_default-read_text : goal.returns-in_default-read_text
 returns-in_default-read_text g c is calls st =
-    let C = g.C.Engine.language c.args.self.now.content.now in
-    let CR = g.C.Engine.rest c.args.self.now.content.now in
-    let V = g.V.Engine.language c.args.self.now.value.now in
-    let VR = g.V.Engine.rest c.args.self.now.value.now in
+    let M = meaning g.C.Engine g.V.Engine c.args.self.now.engines in
     let s = c.args.self.now.state in
-    text_offends C CR V VR s calls c.in-Some.top is c.in-Some.ensures.2 st c.args.bytes.now c.if-not-has_byte.ensures c.in_default-read_text.ensures
+    text_offends M s calls c.in-Some.top is c.in-Some.ensures.last st c.args.bytes.now (has_byte _ _ c.is_empty.ensures c.if-is_empty.false) c.in_default-read_text.ensures
 
 pub returns-then-self-ge-MAX_EVENTS : goal.returns-then-self-ge-MAX_EVENTS
 returns-then-self-ge-MAX_EVENTS g c is calls st =
-    let C = g.C.Engine.language c.args.self.now.content.now in
-    let CR = g.C.Engine.rest c.args.self.now.content.now in
-    let V = g.V.Engine.language c.args.self.now.value.now in
-    let VR = g.V.Engine.rest c.args.self.now.value.now in
+    let M = meaning g.C.Engine g.V.Engine c.args.self.now.engines in
     let s = c.args.self.now.state in
-    text_too_many C CR V VR s calls c.in-Some.top is c.in-Some.ensures.2 st c.args.bytes.now c.in-Some-read_text.frame c.if-not-has_byte.ensures (each_byte _ (λ i. Fits-lt-pow (c.type_inv.bytes i))) c.in-Some-read_text.ensures (omega arith)
+    text_too_many M s calls c.in-Some.top is c.in-Some.ensures.last st c.args.bytes.now c.in-Some-read_text.frame (has_byte _ _ c.is_empty.ensures c.if-is_empty.false) (each_byte _ (λ i. Fits-lt-pow (c.type_inv.bytes i))) c.in-Some-read_text.ensures (omega arith)
 
 pub returns : goal.returns
 returns g c is =
-    let C = g.C.Engine.language c.args.self.now.content.now in
-    let CR = g.C.Engine.rest c.args.self.now.content.now in
-    let V = g.V.Engine.language c.args.self.now.value.now in
-    let VR = g.V.Engine.rest c.args.self.now.value.now in
+    let M = meaning g.C.Engine g.V.Engine c.args.self.now.engines in
     let s = c.args.self.now.state in
-    ((omega arith, (c.in-Some.ensures.0, c.in-Some.ensures.1)), λ calls st. text_right C CR V VR s calls c.in-Some.top is c.in-Some.ensures.2 st c.args.bytes.now c.in-Some-read_text.frame c.if-not-has_byte.ensures (each_byte _ (λ i. Fits-lt-pow (c.type_inv.bytes i))) c.in-Some-read_text.ensures (omega arith))
+    ((omega arith, (not_empty _ _ _ c.in-Some.ensures.last, c.in-Some.ensures.fits)), λ calls st. text_right M s calls c.in-Some.top is c.in-Some.ensures.last st c.args.bytes.now c.in-Some-read_text.frame (has_byte _ _ c.is_empty.ensures c.if-is_empty.false) (each_byte _ (λ i. Fits-lt-pow (c.type_inv.bytes i))) c.in-Some-read_text.ensures (omega arith))

@@ -1,21 +1,21 @@
-use Rattle.std.proofs.Common.{ℕ, Bool, sym, refl, subst}
-use Rattle.sheet.specs.Expect.{ExpectedNext}
-use Rattle.sheet.specs.Questions.{Underway}
+use Rattle.frames.specs.Meanings.{meaning}
 use Rattle.sheet.proofs.Expecting.{expects_root, expects_ended, open_underway}
 use Rattle.sheet.proofs.sheet.Sheet.expect.Goals as goal
-use Rattle.sheet.proofs.sheet.Sheet.expect.Goals.{in-Begun, in-Open, in-Ended}
 
-pub returns : goal.returns
-returns g c calls st =
-    let C = g.C.Engine.language c.args.self.now.content.now in
-    let CR = g.C.Engine.rest c.args.self.now.content.now in
-    let V = g.V.Engine.language c.args.self.now.value.now in
-    let VR = g.V.Engine.rest c.args.self.now.value.now in
+pub returns-in-Begun : goal.returns-in-Begun
+returns-in-Begun g c calls st =
+    let M = meaning g.C.Engine g.V.Engine c.args.self.now.engines in
     let s = c.args.self.now.state in
-    let Told : ℕ × Bool → Type 0 = λ told. Underway calls × ExpectedNext C V calls told.0 told.1 in
-    let right : Told c.match-self.set = elim c.match-self.branch [
-      | in-Begun w ↦ subst Told (sym w.set-is) (expects_root C CR V VR s calls w.with.result w.in-Begun.is w.with.ensures.added w.with.ensures.others st)
-      | in-Open w ↦ subst Told (sym w.set-is) (open_underway C CR V VR s calls w.in-Open.is st, w.expect_inside.ensures w.in-Open.is calls st)
-      | in-Ended w ↦ subst Told (sym w.set-is) (expects_ended C CR V VR s calls w.in-Ended.is st)
-    ] in
-    (right.0, right.1, refl)
+    expects_root M s calls c.with-set.result c.in-Begun.is c.with-set.ensures.added c.with-set.ensures.others st
+
+pub returns-in-Open : goal.returns-in-Open
+returns-in-Open g c calls st =
+    let M = meaning g.C.Engine g.V.Engine c.args.self.now.engines in
+    let s = c.args.self.now.state in
+    (open_underway M s calls c.in-Open.is st, c.expect_inside.ensures c.in-Open.is calls st)
+
+pub returns-in-Ended : goal.returns-in-Ended
+returns-in-Ended g c calls st =
+    let M = meaning g.C.Engine g.V.Engine c.args.self.now.engines in
+    let s = c.args.self.now.state in
+    expects_ended M s calls c.in-Ended.is st

@@ -1,22 +1,16 @@
-use Rattle.std.proofs.Common.{arith}
 use Rattle.sheet.proofs.Expecting.{expects_inside, expects_top}
+use Rattle.frames.specs.Meanings.{meaning}
 use Rattle.sheet.proofs.sheet.Sheet.expect_inside.Goals as goal
 
 pub returns-in_default : goal.returns-in_default
 returns-in_default g c is calls st =
-    let C = g.C.Engine.language c.args.self.now.content.now in
-    let CR = g.C.Engine.rest c.args.self.now.content.now in
-    let V = g.V.Engine.language c.args.self.now.value.now in
-    let VR = g.V.Engine.rest c.args.self.now.value.now in
+    let M = meaning g.C.Engine g.V.Engine c.args.self.now.engines in
     let s = c.args.self.now.state in
-    expects_top C CR V VR s calls is st c.in_default.ensures
+    expects_top M s calls is st c.in_default.ensures.last
 
 pub returns : goal.returns
 returns g c is calls st =
-    let C = g.C.Engine.language c.args.self.now.content.now in
-    let CR = g.C.Engine.rest c.args.self.now.content.now in
-    let V = g.V.Engine.language c.args.self.now.value.now in
-    let VR = g.V.Engine.rest c.args.self.now.value.now in
+    let M = meaning g.C.Engine g.V.Engine c.args.self.now.engines in
     let s = c.args.self.now.state in
-    expects_inside C CR V VR s calls c.in-Some.top is c.in-Some.ensures.2 st c.with_if-set.result c.children.result c.some_text-text.result c.is_complete.result
-    c.some_text-text.ensures (c.with_if-set.ensures.here (omega arith) c.children.ensures.text) c.children.ensures.starts c.with_if-set.ensures.others c.is_complete.ensures
+    expects_inside M s calls c.in-Some.top is c.in-Some.ensures.last st c.next_letters.result c.is_complete.result
+    c.next_letters.ensures.text c.next_letters.ensures.starts c.is_complete.ensures

@@ -1,8 +1,9 @@
 use Rattle.std.proofs.Common.{ℕ, ◌≤◌, sym, ◌∙◌, subst, arith, below_more}
 use Rattle.bits.specs.Sets.{has}
 use Rattle.engine.specs.Languages.{Decides}
+use Rattle.frames.specs.Meanings.{meaning}
 use Rattle.frames.specs.Next.{ChildGoesOn}
-use Rattle.frames.proofs.next.children.Goals as goal
+use Rattle.frames.proofs.engines.Engines.children.Goals as goal
 
 pub loop-number-preserved : goal.loop-number-preserved
 loop-number-preserved g c =
@@ -10,7 +11,7 @@ loop-number-preserved g c =
     let i = c.loop-number.number in
     let set = c.with_if-set.result in
     let others = c.with_if-set.ensures.others in
-    let Next : ℕ → Type 0 = ChildGoesOn (g.C.Engine.rest c.args.content.now) c.args.frame in (
+    let Next : ℕ → Type 0 = ChildGoesOn (meaning g.C.Engine g.V.Engine c.args.self.now) c.args.frame in (
       others 0 (λ e. omega arith) ∙ text,
       (λ n low high. below_more (λ k. 1 ≤ k → Decides (has set k) (Next k)) i
           (λ k under from. subst (λ b. Decides b (Next k)) (sym (others k (λ e. omega arith))) (below k from under))
