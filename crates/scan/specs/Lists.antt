@@ -37,7 +37,7 @@ abbrev pub distinct : List Name → Bool
 distinct [] = true
 distinct (n ∷ ns) = not (listed ns n) && distinct ns
 
--- The zero of a table of entries.
+-- The zeros of spans and of entries.
 abbrev pub zero_span : Span
 zero_span = record { start = 0; end = 0 }
 
