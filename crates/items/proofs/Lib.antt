@@ -6,3 +6,4 @@ pub mod Tagging
 pub mod Tallying
 pub mod Texts
 pub mod Wholes
+pub mod Choosing

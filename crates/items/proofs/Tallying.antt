@@ -7,7 +7,8 @@ use Rattle.items.specs.Grammar.{ReadsItem, State, moved, OneItem, beginning}
 use Rattle.items.specs.Places.{ItemOf, Counted}
 use Rattle.items.specs.Readers.{read_item}
 use Rattle.items.specs.Values.{Value}
-use Rattle.items.specs.declared.item.Item.{Item}
+use Rattle.items.specs.declared.item.Kind.{Kind}
+use Rattle.scan.specs.declared.read.Read.{Read}
 use Rattle.items.proofs.Agreeing.{item_agrees, item_shortens}
 
 -- One step more at the end.
@@ -29,7 +30,7 @@ module _ (text : List ℕ) where
   pub tallied_start : Tallied text 0 0
   tallied_start = record { state = beginning; so_far = none refl refl; place = refl; number = refl; few = omega arith; inside = omega arith }
 
-  pub tallied_more : (at count : ℕ) (item : Item) → Tallied text at count → ItemOf text at (read_item (drop at text)) (Some item) → (at < item.end) × Tallied text item.end (count + 1)
+  pub tallied_more : (at count : ℕ) (item : Read Kind) → Tallied text at count → ItemOf text at (read_item (drop at text)) (Some item) → (at < item.end) × Tallied text item.end (count + 1)
   tallied_more at count item t h = by (read_item (drop at text)) refl h
     where
       by : (f : Front Value) → read_item (drop at text) ≡ f → ItemOf text at f (Some item) → (at < item.end) × Tallied text item.end (count + 1)

@@ -7,9 +7,9 @@ use Rattle.scan.specs.Comments.{held}
 use Rattle.scan.specs.Readings.{Front, bad, got, word}
 use Rattle.scan.proofs.Agreements.{bad_got, got_value, got_rest, chosen, chosen_true, word_sound, word_there}
 use Rattle.items.specs.Grammar.{is_markup, all_chars, CharData}
-use Rattle.items.specs.Readers.{chars_from, as_chars, there}
+use Rattle.items.specs.Readers.{chars_from, as_chars, allowed, there}
 use Rattle.items.specs.Values.{Value, chars}
-use Rattle.items.proofs.Running.{allowed, chars_more}
+use Rattle.items.proofs.Running.{chars_more}
 
 -- `]]>` stands nowhere in the bytes; the rest ends a run.
 abbrev pub Unclosed : List ℕ → Type 0

@@ -58,6 +58,10 @@ abbrev pub there : {A : Type 0} → Front A → Bool
 there bad = false
 there (got v rest) = true
 
+-- Whether the first byte may stand in text, and `]]>` does not begin with it.
+abbrev pub allowed : List ℕ → Bool
+allowed t = first_is is_text_byte t && not (there (word (codes "]]>") t))
+
 -- The bytes up to the next markup or the end, if each of them may stand in text and `]]>` begins at none.
 unfoldable pub chars_from : List ℕ → Front (List ℕ)
 chars_from [] = got [] []

@@ -1,5 +1,6 @@
 -- What an item of a document says.
-use Rattle.std.specs.Prelude.{ℕ, Bool, true, ◌&&◌, List, [], ◌∷◌}
+use Rattle.std.specs.Prelude.{ℕ, Bool, List}
+use Rattle.std.specs.List.{list_all}
 use Rattle.scan.specs.Bytes.{is_blank}
 use Rattle.scan.specs.Names.{Name}
 
@@ -18,5 +19,4 @@ pub record Placed : Type 0 where
 
 -- Whether every byte is a blank.
 abbrev pub all_blank : List ℕ → Bool
-all_blank [] = true
-all_blank (b ∷ t) = is_blank b && all_blank t
+all_blank bytes = list_all is_blank bytes

@@ -16,27 +16,22 @@ ghost use Rattle.items.specs.Examples.{Worked};
 ghost use Rattle.items.specs.Theorems.{ItemsAreRead};
 
 pub use counting::count_items;
-pub use item::{Item, Kind, Span, spanned};
+pub use item::{Item, Kind};
 use markup::markup_at;
 use references::reference_at;
 pub use runs::is_blank_run;
 use runs::run_at;
-use scan::byte_is;
-
-const LESS: u8 = 60;
-
-const AMPERSAND: u8 = 38;
+use scan::peek;
 
 // The item that stands at the place, or none.
 pub fn item_at(text: &[u8], at: usize) -> Option<Item>
     ensures { ItemOf text.now at (read_item (drop at text.now)) result }
 {
-    if byte_is(text, at, LESS) {
-        markup_at(text, at)
-    } else if byte_is(text, at, AMPERSAND) {
-        reference_at(text, at)
-    } else {
-        run_at(text, at)
+    match peek(text, at) {
+        Some(b'<') => markup_at(text, at),
+        Some(b'&') => reference_at(text, at),
+        Some(_) => run_at(text, at),
+        None => None,
     }
 }
 

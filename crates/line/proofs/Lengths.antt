@@ -1,7 +1,7 @@
 -- No line with a short name is longer than the longest.
-use Rattle.std.proofs.Common.{ℕ, ◌+◌, ◌^◌, ◌<◌, ◌≤◌, List, [], ◌∷◌, length, arith, length-append}
+use Rattle.std.proofs.Common.{Option, IsSome, refl, sym, subst, ℕ, ◌+◌, ◌^◌, ◌<◌, ◌≤◌, List, [], ◌∷◌, length, arith, length-append}
 use Rattle.line.specs.Decimals.{value_after}
-use Rattle.line.specs.Lines.{layer_word, agreement_layer_word, name_label, line_end, pieces, Shows, WrittenLine}
+use Rattle.line.specs.Lines.{layer_word, agreement_layer_word, name_label, line_end, pieces, WrittenLine}
 use Rattle.line.specs.Pieces.{Piece, verbatim, decimal, Spells, nothing, as_they_stand, in_base_ten}
 use Rattle.line.specs.Longest.{Typed, NameWithin, NoneLonger}
 use Rattle.line.specs.declared.lines.Layer.{Layer}
@@ -82,14 +82,9 @@ none_longer (Refused refusal layer events byte name) typed named text shows =
 none_longer (RefusedAgreement refusal layer byte) typed named text shows =
     omega (arith, agreement_bound refusal layer byte typed.0 typed.1 text shows)
 
-some_bytes : (line : Line) (text : List ℕ) → Shows line text → 0 < length text
-some_bytes (Pass events bytes) text (as_they_stand bs spells) = omega arith
-some_bytes (Refused refusal layer events byte name) text (as_they_stand bs spells) = omega arith
-some_bytes (RefusedAgreement refusal layer byte) text (as_they_stand bs spells) = omega arith
-
 -- A line with a short name is written where the buffer has the longest line's length.
-pub enough_room : (line : Line) (buffer after : List ℕ) (answer : ℕ) → WrittenLine line buffer after answer → Typed line → NameWithin 32 line → 117 ≤ length buffer → 0 < answer
+pub enough_room : (line : Line) (buffer after : List ℕ) (answer : Option ℕ) → WrittenLine line buffer after answer → Typed line → NameWithin 32 line → 117 ≤ length buffer → IsSome answer
 enough_room line buffer after answer done typed named long =
     let short = none_longer line typed named done.text done.shows in
     let told = done.written.fits (omega (arith, short, long)) in
-    omega (arith, told.0, some_bytes line done.text done.shows)
+    subst IsSome (sym told.0) refl

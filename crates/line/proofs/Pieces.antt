@@ -1,7 +1,8 @@
 -- Pieces that are put one behind another.
-use Rattle.std.proofs.Common.{◌≡◌, ℕ, ◌+◌, ◌<◌, ◌≤◌, List, [], ◌∷◌, ◌++◌, length, take, drop, Some, None, Option, sym, refl, ap, ◌∙◌, subst, append_assoc, append-nil, arith, length-append, length-drop, length-take}
-use Rattle.std.proofs.lemmas.List.{take_at, drop_at, drop-drop}
-use Rattle.line.specs.Pieces.{Piece, verbatim, decimal, Spells, nothing, as_they_stand, in_base_ten}
+use Rattle.std.proofs.Common.{◌≡◌, ℕ, ◌+◌, ◌<◌, ◌≤◌, List, [], ◌∷◌, ◌++◌, length, get_or, map, take, drop, Some, None, Option, sym, refl, ap, ◌∙◌, subst, add-zero, append_assoc, append-nil, arith, length-append, length-drop, length-take}
+use Rattle.std.proofs.lemmas.List.{take_at, drop_at, drop-drop, drop_more, drop_all, take-append-drop}
+use Rattle.line.specs.declared.put.Piece.{Piece as Given}
+use Rattle.line.specs.Pieces.{Piece, said, verbatim, decimal, Spells, nothing, as_they_stand, in_base_ten}
 use Rattle.line.specs.Placed.{Put, stands, short, PutNumber, PutPieces}
 use Rattle.line.proofs.Reading.{at_most_one}
 use Rattle.line.proofs.Spelling.{spelled}
@@ -96,10 +97,25 @@ no_room {ps} qs {buffer} {between} {after} {at} {answer} none first =
       put = subst (Put both buffer at after) (sym none) (short long);
     }
 
-pub bytes_put_as : {bs cs buffer : List ℕ} {at : ℕ} {after : List ℕ} {answer : Option ℕ} → bs ≡ cs → Put bs buffer at after answer → PutPieces (verbatim cs ∷ []) buffer at after answer
-bytes_put_as {bs} {cs} {buffer} {at} {after} {answer} same put = bytes_put (subst (λ l. Put l buffer at after answer) same put)
+-- The pieces from one on: it, and those behind it.
+module _ (ps : List Given) (i : ℕ) (d : Given) (within : i < length ps) where
+  front_piece : map said (drop i ps) ≡ said (get_or ps i d) ∷ map said (drop (i + 1) ps)
+  front_piece = ap (map said) (drop_more ps i d within)
 
--- A word by its value.
-pub worded : {label blank v w : List ℕ} {n : ℕ} {buffer : List ℕ} {at : ℕ} {after : List ℕ} {answer : Option ℕ} → v ≡ w → PutPieces (verbatim label ∷ decimal n ∷ verbatim blank ∷ verbatim v ∷ []) buffer at after answer → PutPieces (verbatim label ∷ decimal n ∷ verbatim blank ∷ verbatim w ∷ []) buffer at after answer
-worded {label} {blank} {v} {w} {n} {buffer} {at} {after} {answer} same put =
-    subst (λ l. PutPieces (verbatim label ∷ decimal n ∷ verbatim blank ∷ verbatim l ∷ []) buffer at after answer) same put
+  pub piece_then : {buffer between after : List ℕ} {at next : ℕ} {answer : Option ℕ} → PutPieces (said (get_or ps i d) ∷ []) buffer at between (Some next) → PutPieces (map said (drop (i + 1) ps)) between next after answer → PutPieces (map said (drop i ps)) buffer at after answer
+  piece_then {buffer} {between} {after} {at} {next} {answer} first second =
+      subst (λ qs. PutPieces qs buffer at after answer) (sym front_piece) (and_then first second)
+
+  pub piece_short : {buffer between : List ℕ} {at : ℕ} {answer : Option ℕ} → answer ≡ None → PutPieces (said (get_or ps i d) ∷ []) buffer at between None → PutPieces (map said (drop i ps)) buffer at between answer
+  piece_short {buffer} {between} {at} {answer} none first =
+      subst (λ qs. PutPieces qs buffer at between answer) (sym front_piece) (no_room (map said (drop (i + 1) ps)) none first)
+
+pub no_piece : (ps : List Given) (i : ℕ) (buffer : List ℕ) (at : ℕ) → length ps ≤ i → at ≤ length buffer → PutPieces (map said (drop i ps)) buffer at buffer (Some at)
+no_piece ps i buffer at over inside =
+    let none : map said (drop i ps) ≡ [] = ap (map said) (drop_all i ps over) in
+    let whole : buffer ≡ take at buffer ++ ([] ++ drop at buffer) = sym (take-append-drop at buffer) in
+    subst (λ qs. PutPieces qs buffer at buffer (Some at)) (sym none) (record {
+      text = [];
+      spells = nothing;
+      put = standing [] buffer buffer at at (sym (add-zero at)) inside whole;
+    })

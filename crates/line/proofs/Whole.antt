@@ -1,7 +1,8 @@
 -- A whole line in a buffer that was zero before.
-use Rattle.std.proofs.Common.{◌≡◌, ℕ, ◌-◌, List, ◌++◌, length, drop, replicate, Some, None, refl, ap, ◌∙◌, arith}
+use Rattle.std.proofs.Common.{◌≡◌, ℕ, ◌-◌, true, false, is_some, Option, List, ◌++◌, length, drop, replicate, Some, None, refl, ap, ◌∙◌, arith}
 use lib.ListN.{length-replicate}
 use Rattle.std.proofs.lemmas.List.{drop-replicate}
+use Rattle.std.proofs.lemmas.Bool.{both_ways}
 use Rattle.line.specs.Lines.{WrittenLine, OneText, pieces}
 use Rattle.line.specs.Placed.{PutPieces}
 use Rattle.line.specs.declared.lines.Line.{Line}
@@ -17,7 +18,7 @@ module _ (line : Line) (buffer clean after : List ℕ) (zero_first : clean ≡ z
   room : length clean ≡ length buffer
   room = ap length zero_first ∙ zeros_length (length buffer)
 
-  pub whole_line : (answer : ℕ) → PutPieces (pieces line) clean 0 after (Some answer) → WrittenLine line buffer after answer
+  whole_line : (answer : ℕ) → PutPieces (pieces line) clean 0 after (Some answer) → WrittenLine line buffer after (Some answer)
   whole_line answer put =
       let bs = put.text in
       let told = stood put.put in
@@ -28,12 +29,12 @@ module _ (line : Line) (buffer clean after : List ℕ) (zero_first : clean ≡ z
         text = bs;
         shows = put.spells;
         written = record {
-          fits = λ fits. (full, told.2 ∙ ap (λ l. bs ++ l) rest);
+          fits = λ fits. (ap Some full, told.2 ∙ ap (λ l. bs ++ l) rest);
           short = λ less. absurd (omega (arith, told.1, room, full, less));
         };
       }
 
-  pub no_line : (between : List ℕ) → after ≡ zeros (length between) → length between ≡ length clean → PutPieces (pieces line) clean 0 between None → WrittenLine line buffer after 0
+  no_line : (between : List ℕ) → after ≡ zeros (length between) → length between ≡ length clean → PutPieces (pieces line) clean 0 between None → WrittenLine line buffer after None
   no_line between zero-again long put =
       let less = fell_short put.put in
       record {
@@ -44,6 +45,15 @@ module _ (line : Line) (buffer clean after : List ℕ) (zero_first : clean ≡ z
           short = λ _. (refl, zero-again ∙ ap zeros (long ∙ room));
         };
       }
+
+  -- The same, by whether there is an answer.
+  pub answered : (answer : Option ℕ) → is_some answer ≡ true → PutPieces (pieces line) clean 0 after answer → WrittenLine line buffer after answer
+  answered (Some answer) some put = whole_line answer put
+  answered None some put = absurd (both_ways _ refl some)
+
+  pub unanswered : (answer : Option ℕ) (between : List ℕ) → is_some answer ≡ false → after ≡ zeros (length between) → length between ≡ length clean → PutPieces (pieces line) clean 0 between answer → WrittenLine line buffer after answer
+  unanswered (Some answer) between none zero-again long put = absurd (both_ways _ none refl)
+  unanswered None between none zero-again long put = no_line between zero-again long put
 
 pub one_text : OneText
 one_text line =

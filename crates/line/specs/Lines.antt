@@ -1,5 +1,5 @@
 -- The bytes of a line, told by its value.
-use Rattle.std.specs.Prelude.{◌≡◌, ℕ, ◌-◌, ◌<◌, ◌≤◌, List, [], ◌∷◌, ◌++◌, length, replicate, codes}
+use Rattle.std.specs.Prelude.{◌≡◌, ℕ, ◌-◌, ◌<◌, ◌≤◌, List, [], ◌∷◌, ◌++◌, length, replicate, Some, None, Option, codes}
 use Rattle.line.specs.Pieces.{Piece, verbatim, decimal, Spells}
 use Rattle.line.specs.declared.lines.Layer.{Layer}
 use Rattle.line.specs.declared.lines.Layer.TheVariants.{Reader, Names, Sheet}
@@ -55,13 +55,13 @@ abbrev pub OneText : Type 0
 OneText = (line : Line) → (bs : List ℕ) × Shows line bs × ((others : List ℕ) → Shows line others → others ≡ bs)
 
 -- What the buffer holds after the bytes were written from its beginning on: where they fit, they and then zeros, and
--- the answer is how many they are; where they do not, zeros, and the answer is 0.
-pub record Written (bs buffer after : List ℕ) (answer : ℕ) : Type 0 where
-  pub fits : length bs ≤ length buffer → (answer ≡ length bs) × (after ≡ bs ++ replicate (length buffer - length bs) 0)
-  pub short : length buffer < length bs → (answer ≡ 0) × (after ≡ replicate (length buffer) 0)
+-- the answer is how many they are; where they do not, zeros, and there is no answer.
+pub record Written (bs buffer after : List ℕ) (answer : Option ℕ) : Type 0 where
+  pub fits : length bs ≤ length buffer → (answer ≡ Some (length bs)) × (after ≡ bs ++ replicate (length buffer - length bs) 0)
+  pub short : length buffer < length bs → (answer ≡ None) × (after ≡ replicate (length buffer) 0)
 
 -- The line is written.
-pub record WrittenLine (line : Line) (buffer after : List ℕ) (answer : ℕ) : Type 0 where
+pub record WrittenLine (line : Line) (buffer after : List ℕ) (answer : Option ℕ) : Type 0 where
   pub text : List ℕ
   pub shows : Shows line text
   pub written : Written text buffer after answer

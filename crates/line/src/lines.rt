@@ -1,7 +1,7 @@
 // What a program prints of its verdict: one line.
 
 // The layer of the gate that refused a document.
-#[derive(Clone, Copy)]
+#[derive(Clone, Copy, PartialEq, Eq, Debug)]
 pub enum Layer {
     Reader,
     Names,
@@ -9,7 +9,7 @@ pub enum Layer {
 }
 
 // The text of an agreement that was refused.
-#[derive(Clone, Copy)]
+#[derive(Clone, Copy, PartialEq, Eq, Debug)]
 pub enum AgreementLayer {
     Declarations,
     Forms,
@@ -18,7 +18,7 @@ pub enum AgreementLayer {
 // A pass with its events and the document's length in bytes; a refused document with the refusal's number, the
 // events that were accepted before it, the byte where it came and a name that goes with it, or none; a refused
 // text of an agreement, with the byte where it was refused.
-#[derive(Clone, Copy)]
+#[derive(Clone, Copy, PartialEq, Eq, Debug)]
 pub enum Line<'a> {
     Pass {
         events: u32,

@@ -10,7 +10,9 @@ fn is_zero(bytes: &[u8]) -> bool {
 
 // Whether the buffer then holds this text and zeros behind it.
 fn holds(line: &Line, out: &mut [u8], text: &[u8]) -> bool {
-    let length = line.write(out);
+    let Some(length) = line.write(out) else {
+        return false;
+    };
     length == text.len()
         && length <= out.len()
         && &out[0..length] == text
@@ -19,7 +21,7 @@ fn holds(line: &Line, out: &mut [u8], text: &[u8]) -> bool {
 
 // Whether the buffer is too short, and then holds zeros.
 fn overflows(line: &Line, out: &mut [u8]) -> bool {
-    line.write(out) == 0 && is_zero(out)
+    line.write(out).is_none() && is_zero(out)
 }
 
 // Whether the line is written as this text.
@@ -102,7 +104,7 @@ fn lines_have_these_bytes(rt: HostRuntime) {
             b"[refused 255 [layer reader] [events 4294967295] [byte 18446744073709551615] [name a-name-that-has-thirty-two-bytes]]\n",
         )
     );
-    assert_eq!(rt; longest.write(&mut [0; LONGEST_LINE]), LONGEST_LINE);
+    assert_eq!(rt; longest.write(&mut [0; LONGEST_LINE]), Some(LONGEST_LINE));
     assert!(rt;
         shows(
             &refused_agreement(19, AgreementLayer::Declarations, 0),

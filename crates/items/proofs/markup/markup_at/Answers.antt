@@ -1,21 +1,17 @@
-use Rattle.std.proofs.Common.{drop}
+use Rattle.std.proofs.Common.{drop, codes, rules}
 use Rattle.scan.specs.Comments.{read_comment}
-use Rattle.items.proofs.Answering.{first_some, first_none, comment_some, comment_none}
+use Rattle.scan.specs.Readings.{word}
+use Rattle.items.specs.Places.{ItemOf}
+use Rattle.items.specs.Readers.{first_of, commented, end_opened, start_opened}
+use Rattle.items.proofs.Answering.{first_answer, first_regrouped}
 use Rattle.items.proofs.markup.markup_at.Goals as goal
 
-pub returns-in-Some : goal.returns-in-Some
-returns-in-Some c =
+pub returns : goal.returns
+returns c =
     let text = c.args.text.now in
-    first_some text c.args.at _ _ _ (comment_some text c.args.at c.in-Some.end (read_comment (drop c.args.at text)) c.in-Some.ensures)
-
-pub returns-in-Some-end_tag : goal.returns-in-Some-end_tag
-returns-in-Some-end_tag c =
-    let text = c.args.text.now in
-    first_none text c.args.at _ _ _ (comment_none text c.args.at (read_comment (drop c.args.at text)) c.in_default.ensures)
-    (first_some text c.args.at _ _ c.in-Some-end_tag.tag c.in-Some-end_tag.ensures)
-
-pub returns-in-None : goal.returns-in-None
-returns-in-None c =
-    let text = c.args.text.now in
-    first_none text c.args.at _ _ _ (comment_none text c.args.at (read_comment (drop c.args.at text)) c.in_default.ensures)
-    (first_none text c.args.at _ _ _ c.in-None.ensures c.start_tag.ensures)
+    let t = drop c.args.at text in
+    let f = commented (read_comment t) in
+    let g = end_opened (word (codes "</") t) in
+    let h = start_opened (word (codes "<") t) in
+    let two : ItemOf text c.args.at (first_of f g) c.or_else.result = first_answer text c.args.at f g c.comment.result c.or_else.result c.comment.ensures (search rules) in
+    first_regrouped text c.args.at f g h c.or_else-2.result (first_answer text c.args.at (first_of f g) h c.or_else.result c.or_else-2.result two (search rules))

@@ -1,10 +1,6 @@
-use Rattle.std.proofs.Common.{lit<}
-use Rattle.items.proofs.Answering.{first_some, first_none}
+use Rattle.std.proofs.Common.{lit<, rules}
+use Rattle.items.proofs.Answering.{first_answer}
 use Rattle.items.proofs.markup.start_tag_closed.Goals as goal
 
-pub returns-in-Some : goal.returns-in-Some
-returns-in-Some c = first_some c.args.text.now c.args.at _ _ c.in-Some.tag (c.in-Some.ensures (lit< tt))
-
-pub returns-in-None : goal.returns-in-None
-returns-in-None c =
-    first_none c.args.text.now c.args.at _ _ c.closed_with-in-None.result (c.in-None.ensures (lit< tt)) (c.closed_with-in-None.ensures (lit< tt))
+pub returns : goal.returns
+returns c = first_answer c.args.text.now c.args.at _ _ c.closed_with-start.result c.or_else.result (c.closed_with-start.ensures (lit< tt)) (search rules)

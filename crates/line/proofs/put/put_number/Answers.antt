@@ -1,20 +1,15 @@
-use Rattle.std.proofs.Common.{drop, subst}
-use Rattle.std.proofs.lemmas.List.{take_rest}
+use Rattle.std.proofs.Common.{decimal, subst, ◌∙◌}
+use mir.Facts.{Fits-lt-pow}
 use Rattle.line.specs.Placed.{Put}
-use Rattle.line.proofs.Spelling.{one_decimal}
+use Rattle.line.proofs.Spelling.{one_decimal, library_text}
 use Rattle.line.proofs.put.put_number.Goals as goal
 
-pub returns : goal.returns
-returns c =
-    let places = c.spell-first.new.places in
-    let first = c.spell-first.result in
-    let text = rw c.spell-first.array_long at (take_rest places first) in
-    record {
-      written = record {
-        text = drop first places;
-        decimal = c.spell-first.ensures.1;
-        put = subst (λ bs. Put bs c.args.out.now c.args.at c.put_bytes.new.out c.put_bytes.result) text c.put_bytes.ensures.written;
-      };
-      same = c.put_bytes.ensures.same;
-      one = one_decimal;
-    }
+pub returns-clause-written : goal.returns-clause-written
+returns-clause-written c = record {
+  text = decimal c.args.number;
+  decimal = library_text c.args.number (Fits-lt-pow c.ranges.number);
+  put = subst (λ bs. Put bs c.args.out.now c.args.at c.put_bytes.new.out c.put_bytes.result) (c.as_bytes.ensures.value ∙ c.format.ensures.text) c.put_bytes.ensures.written;
+}
+
+pub returns-clause-one : goal.returns-clause-one
+returns-clause-one c = one_decimal

@@ -1,29 +1,31 @@
+use Rattle.std.proofs.Common.{rules}
+use Rattle.line.specs.Lines.{WrittenLine}
 use Rattle.line.proofs.Lengths.{none_longer, enough_room}
-use Rattle.line.proofs.Whole.{whole_line, no_line, one_text}
+use Rattle.line.proofs.Whole.{answered, unanswered, one_text}
 use Rattle.line.proofs.lines.Line.write.Goals as goal
 
-pub returns-in-Some : goal.returns-in-Some
-returns-in-Some c =
+pub returns-then-is_none : goal.returns-then-is_none
+returns-then-is_none c =
     let line = c.args.self.now in
     let out = c.args.out.now in
-    let after = c.put.new.out in
-    let done = whole_line line out c.clear.new.out after c.clear.ensures c.in-Some.length c.in-Some.ensures.written in
+    let done : WrittenLine line out c.fill-then-is_none.new.self c.put-length.result =
+    unanswered line out c.fill.new.self c.fill-then-is_none.new.self (c.fill.ensures.after (λ y e. search rules)) c.put-length.result c.put-length.new.out c.if-is_none.ensures (c.fill-then-is_none.ensures.after (λ y e. search rules)) c.put-length.auto.out c.put-length.ensures.written in
     record {
       written = done;
       one = one_text;
       longest = none_longer;
-      room = enough_room line out after c.in-Some.length done c.put.ensures.typed;
+      room = enough_room line out _ _ done c.put-length.ensures.typed;
     }
 
-pub returns-in-None : goal.returns-in-None
-returns-in-None c =
+pub returns-else-is_none : goal.returns-else-is_none
+returns-else-is_none c =
     let line = c.args.self.now in
     let out = c.args.out.now in
-    let after = c.clear-in-None.new.out in
-    let done = no_line line out c.clear.new.out after c.clear.ensures c.put.new.out c.clear-in-None.ensures c.put.auto.out c.in-None.ensures.written in
+    let done : WrittenLine line out c.put-length.new.out c.put-length.result =
+    answered line out c.fill.new.self c.put-length.new.out (c.fill.ensures.after (λ y e. search rules)) c.put-length.result c.if-is_none.ensures c.put-length.ensures.written in
     record {
       written = done;
       one = one_text;
       longest = none_longer;
-      room = enough_room line out after 0 done c.put.ensures.typed;
+      room = enough_room line out _ _ done c.put-length.ensures.typed;
     }
