@@ -6,7 +6,6 @@ mod lines;
 mod nesting;
 mod numerals;
 mod openings;
-mod part;
-mod steps;
+mod read;
 
 pub use lines::{Lined, form_at, write_form};

@@ -1,6 +1,6 @@
 use Rattle.std.proofs.Common.{◌<◌, lit<}
 use Rattle.forms.proofs.Between.{range_none, no_low, no_space, no_high, no_end, no_range, ranged}
-use Rattle.forms.proofs.steps.range_at.Goals as goal
+use Rattle.forms.proofs.numerals.range_at.Goals as goal
 
 one : 0 < 1
 one = lit< tt
@@ -32,16 +32,16 @@ returns-in_err-end c =
     range_none text at c.from_residual-in_err-end.result c.from_residual-in_err-end.ensures
     (no_end text at c.in_ok-low.low c.in_ok-low.ensures c.in_ok-space.space (c.in_ok-space.ensures.answer one) c.in_ok-high.high c.in_ok-high.ensures (c.in_err-end.ensures.answer one))
 
-pub returns-in_err-range : goal.returns-in_err-range
-returns-in_err-range c =
+pub returns-in_err-value : goal.returns-in_err-value
+returns-in_err-value c =
     let text = c.args.text.now in
     let at = c.args.at in
-    range_none text at c.from_residual-in_err-range.result c.from_residual-in_err-range.ensures
-    (no_range text at c.in_ok-low.low c.in_ok-low.ensures c.in_ok-space.space (c.in_ok-space.ensures.answer one) c.in_ok-high.high c.in_ok-high.ensures c.in_ok-end.end (c.in_ok-end.ensures.answer one) c.in_err-range.ensures)
+    range_none text at c.from_residual-in_err-value.result c.from_residual-in_err-value.ensures
+    (no_range text at c.in_ok-low.low c.in_ok-low.ensures c.in_ok-space.space (c.in_ok-space.ensures.answer one) c.in_ok-high.high c.in_ok-high.ensures c.in_ok-end.end (c.in_ok-end.ensures.answer one) c.in_err-value.ensures)
 
 pub returns : goal.returns
 returns c =
     let text = c.args.text.now in
     let at = c.args.at in
-    let made = c.in_ok-range.ensures in
-    ranged text at c.in_ok-low.low c.in_ok-low.ensures c.in_ok-space.space (c.in_ok-space.ensures.answer one) c.in_ok-high.high c.in_ok-high.ensures c.in_ok-end.end (c.in_ok-end.ensures.answer one) c.in_ok-range.range made.0 made.1
+    let made = c.in_ok-value.ensures in
+    ranged text at c.in_ok-low.low c.in_ok-low.ensures c.in_ok-space.space (c.in_ok-space.ensures.answer one) c.in_ok-high.high c.in_ok-high.ensures c.in_ok-end.end (c.in_ok-end.ensures.answer one) c.in_ok-value.value made.0 made.1
