@@ -1,12 +1,12 @@
 -- The end of a name.
-use Rattle.std.proofs.Common.{◌≡◌, ℕ, ◌+◌, ◌-◌, ◌<◌, ◌≤◌, Bool, true, false, cond, ◌&&◌, leb, List, length, get_or, take, drop, Some, None, Option, sym, refl, ap, ◌∙◌, subst, ap₂, inl, inr, arith, length-drop, drop-drop}
+use Rattle.std.proofs.Common.{◌≡◌, ℕ, ◌+◌, ◌-◌, ◌<◌, ◌≤◌, Bool, true, false, ◌&&◌, leb, List, length, take, drop, Some, None, Option, sym, ap, ◌∙◌, subst, ap₂, inl, inr, arith, length-drop, drop-drop}
 use Rattle.std.specs.List.{prefix_len}
 use Rattle.std.proofs.lemmas.List.Sums.{prefix_len-drop_yes, prefix_len-drop_no, prefix_len-drop_all, prefix_len-le-length}
-use Rattle.std.proofs.lemmas.Bool.{cases_lt, le-leb, lt-leb, and_from, and_left, and_right, cond-true, cond-false}
+use Rattle.std.proofs.lemmas.Bool.{cases_lt, le-leb, lt-leb, and_from, and_left, and_right}
 use Rattle.scan.specs.Bytes.{is_initial, is_name_byte, first_is}
 use Rattle.scan.specs.Names.{read_name}
 use Rattle.scan.specs.Readings.{bad, got, EndOf}
-use Rattle.scan.proofs.Fronts.{first_inside, first_past, first_there}
+use Rattle.scan.proofs.Fronts.{first_inside, first_there}
 
 -- One more name byte, and none.
 pub leading_one : (test : ℕ → Bool) (t : List ℕ) (i : ℕ) → first_is test (drop i t) ≡ true → prefix_len test (drop i t) ≡ 1 + prefix_len test (drop (i + 1) t)
@@ -20,25 +20,6 @@ leading_none test t i fails =
       | inl lt ↦ prefix_len-drop_no test t i 0 lt (sym (first_inside test t i 0 lt) ∙ fails)
       | inr le ↦ prefix_len-drop_all test t i le
     ]
-
--- A width of 1 or 0 tells whether the front passes.
-pub width_none : (b : Bool) (w : ℕ) → w ≡ cond b 1 0 → w ≡ 0 → b ≡ false
-width_none true w e z = absurd (omega arith)
-width_none false w e z = refl
-
-pub width_some : (b : Bool) (w : ℕ) → w ≡ cond b 1 0 → (w ≡ 0 → ⊥) → (b ≡ true) × (w ≡ 1)
-width_some true w e z = (refl, e)
-width_some false w e z = absurd (z e)
-
--- The width is 1 where the byte passes, else 0.
-pub width_past : (test : ℕ → Bool) (t : List ℕ) (i : ℕ) → length t ≤ i → ◌≡◌ {A = ℕ} 0 (cond (first_is test (drop i t)) 1 0)
-width_past test t i le = sym (cond-false _ 1 0 (first_past test t i le))
-
-pub width_one : (test : ℕ → Bool) (t : List ℕ) (i : ℕ) → i < length t → test (get_or t i 0) ≡ true → ◌≡◌ {A = ℕ} 1 (cond (first_is test (drop i t)) 1 0)
-width_one test t i lt holds = sym (cond-true _ 1 0 (first_inside test t i 0 lt ∙ holds))
-
-pub width_zero : (test : ℕ → Bool) (t : List ℕ) (i : ℕ) → i < length t → test (get_or t i 0) ≡ false → ◌≡◌ {A = ℕ} 0 (cond (first_is test (drop i t)) 1 0)
-width_zero test t i lt fails = sym (cond-false _ 1 0 (first_inside test t i 0 lt ∙ fails))
 
 -- The three ways in which the reading of a name ends.
 read_some : (t : List ℕ) → first_is is_initial t ≡ true → prefix_len is_name_byte t ≤ 32 → read_name t ≡ got (take (prefix_len is_name_byte t) t) (drop (prefix_len is_name_byte t) t)

@@ -1,9 +1,11 @@
 -- Names in tables.
-use Rattle.std.proofs.Common.{◌≡◌, ℕ, ◌+◌, ◌-◌, ◌<◌, ◌≤◌, min, Bool, true, false, eqb, ◌⊎◌, List, [], ◌∷◌, length, get_or, take, drop, Decides, sym, refl, ap, ◌∙◌, inl, inr, arith, length-drop, take_all}
+use Rattle.std.proofs.Common.{◌≡◌, ℕ, ◌+◌, ◌-◌, ◌<◌, ◌≤◌, min, Bool, true, false, cond, eqb, ◌⊎◌, List, [], ◌∷◌, length, take, drop, position, Some, None, Option, Decides, sym, refl, ap, ◌∙◌, subst, inl, inr, arith, length-drop, take_all}
 use lib.Seq.{take-nil}
-use Rattle.std.proofs.lemmas.List.{drop_more, drop_all}
+use Rattle.std.proofs.lemmas.List.{drop_all}
 use Rattle.std.proofs.lemmas.Slice.Eq.{compares_Decides}
-use Rattle.std.proofs.lemmas.Bool.{cases_lt, eqb-true, eq-eqb, ne_eqb}
+use Rattle.std.proofs.lemmas.Bool.{cases_lt, both_ways, eqb-true, eq-eqb}
+use Rattle.std.proofs.lemmas.Iterator.Adapters.{position_from-zero}
+use Rattle.std.specs.List.{position_from}
 use Rattle.scan.specs.Lists.{same, number_of, name_at, names_at}
 use Rattle.scan.specs.Names.{Name}
 use Rattle.scan.specs.declared.entry.Entry.{Entry}
@@ -37,64 +39,31 @@ clamped text start end s e is-e is-s =
           ])
     ]
 
--- The number of a name in a list whose first is at this index.
-pub shifted : ℕ → ℕ → ℕ
-shifted i n = elim (eqb n 0) [ true ↦ 0 | false ↦ i + n ]
+module _ (text : List ℕ) (name : Name) where
+  -- Whether the entry has the name.
+  abbrev pub named : Entry → Bool
+  named entry = same (name_at text entry) name
 
-shifted_none : (i n : ℕ) → eqb n 0 ≡ true → shifted i n ≡ 0
-unfolding shifted
-shifted_none i n e = rw (e, shifted)
+  -- What the number is where the entries from this place on were searched.
+  abbrev pub Found : ℕ → List Entry → ℕ → Option ℕ → Type 0
+  Found i entries number None = number ≡ 0
+  Found i entries number (Some k) = (number + i ≡ k + 1) × (0 < number) × (k < i + length entries)
 
-shifted_some : (i n : ℕ) → eqb n 0 ≡ false → shifted i n ≡ i + n
-unfolding shifted
-shifted_some i n e = rw (e, shifted)
+  later : (i : ℕ) (entry : Entry) (entries : List Entry) (number : ℕ) (r : Option ℕ) → Found (i + 1) entries number r → (b : Bool) → eqb number 0 ≡ b → Found i (entry ∷ entries) (elim b [ true ↦ 0 | false ↦ number + 1 ]) r
+  later i entry entries number None h true e = refl
+  later i entry entries number None h false e = let z : number ≡ 0 = h in absurd (both_ways _ e (eq-eqb number 0 h))
+  later i entry entries number (Some k) h true e = let z : number ≡ 0 = eqb-true number 0 e in absurd (omega arith)
+  later i entry entries number (Some k) h false e = (omega arith, omega arith, omega arith)
 
-number_found : (n name : Name) (ns : List Name) → same n name ≡ true → number_of (n ∷ ns) name ≡ 1
-unfolding number_of
-number_found n name ns e = rw (e, number_of)
-
-number_none : (n name : Name) (ns : List Name) → same n name ≡ false → eqb (number_of ns name) 0 ≡ true → number_of (n ∷ ns) name ≡ 0
-unfolding number_of
-number_none n name ns e z = rw (e, z, number_of)
-
-number_some : (n name : Name) (ns : List Name) → same n name ≡ false → eqb (number_of ns name) 0 ≡ false → number_of (n ∷ ns) name ≡ number_of ns name + 1
-unfolding number_of
-number_some n name ns e z = rw (e, z, number_of)
-
-shifted_next : (i : ℕ) (n name : Name) (ns : List Name) → same n name ≡ false → shifted i (number_of (n ∷ ns) name) ≡ shifted (i + 1) (number_of ns name)
-shifted_next i n name ns e = by (eqb (number_of ns name) 0) refl
-  where
-    by : (b : Bool) → eqb (number_of ns name) 0 ≡ b → shifted i (number_of (n ∷ ns) name) ≡ shifted (i + 1) (number_of ns name)
-    by true z = shifted_none i _ (eq-eqb _ _ (number_none n name ns e z)) ∙ sym (shifted_none (i + 1) _ z)
-    by false z =
-        let more : number_of (n ∷ ns) name ≡ number_of ns name + 1 = number_some n name ns e z in
-        let sum : i + number_of (n ∷ ns) name ≡ (i + 1) + number_of ns name = omega arith in
-        shifted_some i _ (ne_eqb _ _ (λ none. omega arith)) ∙ sum ∙ sym (shifted_some (i + 1) _ z)
-
-pub shifted_start : (n : ℕ) → n ≡ shifted 0 n
-shifted_start n = by (eqb n 0) refl
-  where
-    by : (b : Bool) → eqb n 0 ≡ b → n ≡ shifted 0 n
-    by true e = eqb-true n 0 e ∙ sym (shifted_none 0 n e)
-    by false e = let sum : n ≡ 0 + n = omega arith in sum ∙ sym (shifted_some 0 n e)
-
-module _ (text : List ℕ) (entries : List Entry) (name : Name) where
-  -- The number of the name among the entries from a place on.
-  abbrev pub number_from : ℕ → ℕ
-  number_from i = shifted i (number_of (names_at text (drop i entries)) name)
-
-  split : (i : ℕ) (d : Entry) → i < length entries → number_of (names_at text (drop i entries)) name ≡ number_of (name_at text (get_or entries i d) ∷ names_at text (drop (i + 1) entries)) name
-  split i d lt = ap (λ es. number_of (names_at text es) name) (drop_more entries i d lt)
-
-  pub number_here : (i : ℕ) (d : Entry) → i < length entries → same (name_at text (get_or entries i d)) name ≡ true → number_from i ≡ i + 1
-  number_here i d lt e = ap (shifted i) (split i d lt ∙ number_found _ name _ e) ∙ shifted_some i 1 refl
-
-  pub number_later : (i : ℕ) (d : Entry) → i < length entries → same (name_at text (get_or entries i d)) name ≡ false → number_from i ≡ number_from (i + 1)
-  number_later i d lt e = ap (shifted i) (split i d lt) ∙ shifted_next i (name_at text (get_or entries i d)) name (names_at text (drop (i + 1) entries)) e
-
-  number_empty : number_of [] name ≡ 0
+  found : (entries : List Entry) (i : ℕ) → Found i entries (number_of (names_at text entries) name) (position_from named i entries)
   unfolding number_of
-  number_empty = refl
+  found [] i = refl
+  found (entry ∷ entries) i = by (named entry) (found entries (i + 1))
+    where
+      by : (b : Bool) → Found (i + 1) entries (number_of (names_at text entries) name) (position_from named (i + 1) entries) → Found i (entry ∷ entries) (elim b [ true ↦ 1 | false ↦ elim (eqb (number_of (names_at text entries) name) 0) [ true ↦ 0 | false ↦ number_of (names_at text entries) name + 1 ] ]) (cond b (Some i) (position_from named (i + 1) entries))
+      by true h = (omega arith, omega arith, omega arith)
+      by false h = later i entry entries (number_of (names_at text entries) name) (position_from named (i + 1) entries) h (eqb (number_of (names_at text entries) name) 0) refl
 
-  pub number_nowhere : (i : ℕ) → length entries ≤ i → number_from i ≡ 0
-  number_nowhere i le = ap (λ es. shifted i (number_of (names_at text es) name)) (drop_all i entries le) ∙ shifted_none i _ (eq-eqb _ _ number_empty)
+  -- The place of the first entry that has the name is one less than its number.
+  pub placed : (entries : List Entry) (r : Option ℕ) → r ≡ position named entries → Found 0 entries (number_of (names_at text entries) name) r
+  placed entries r e = subst (Found 0 entries (number_of (names_at text entries) name)) (sym (e ∙ position_from-zero named entries)) (found entries 0)

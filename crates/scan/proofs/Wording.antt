@@ -1,53 +1,47 @@
 -- The end of a word.
-use Rattle.std.proofs.Common.{◌≡◌, ℕ, ◌+◌, ◌<◌, ◌≤◌, true, false, eqb, List, [], ◌∷◌, length, get_or, drop, Some, None, sym, refl, ap, ◌∙◌, subst, ap₂, arith}
-use Rattle.std.proofs.lemmas.List.{drop_more, drop_all}
+use Rattle.std.proofs.Common.{◌≡◌, ℕ, ◌+◌, ◌-◌, ◌<◌, ◌≤◌, Bool, true, false, eqb, List, [], ◌∷◌, length, drop, Some, None, Option, is_some, IsTrue, IfSome, sym, refl, ap, ◌∙◌, subst, arith, length-drop, drop-drop}
+use Rattle.std.specs.List.{starts_with}
+use Rattle.std.proofs.lemmas.Bool.{both_ways}
+use Rattle.std.proofs.lemmas.Bool.Decides.{Decides-eqb}
+use Rattle.std.proofs.lemmas.Slice.Eq.{starts_is}
 use Rattle.scan.specs.Bytes.{first_is}
-use Rattle.scan.specs.Readings.{bad, got, word, EndOf}
-use Rattle.scan.proofs.Fronts.{first_inside, first_there}
+use Rattle.scan.specs.Readings.{Front, bad, got, word, EndOf}
+use Rattle.scan.proofs.Agreements.{word_sound, word_there}
 
-word_step : (c : ℕ) (cs t : List ℕ) (b : ℕ) → eqb c b ≡ true → word (c ∷ cs) (b ∷ t) ≡ word cs t
-unfolding word
-word_step c cs t b e = rw (e, word)
+-- The word is read exactly where the text starts with it.
+pub word_starts : (w t : List ℕ) → true ≡ starts_with eqb t w → word w t ≡ got tt (drop (length w) t)
+word_starts w t e =
+    let whole = (starts_is Decides-eqb t w true e).0 refl in
+    ap (word w) whole ∙ word_there w (drop (length w) t)
 
-word_bad : (c : ℕ) (cs t : List ℕ) → first_is (eqb c) t ≡ false → word (c ∷ cs) t ≡ bad
+pub word_stops : (w t : List ℕ) → false ≡ starts_with eqb t w → word w t ≡ bad
+word_stops w t e = by (word w t) refl
+  where
+    by : (f : Front (Unit {0})) → word w t ≡ f → f ≡ bad
+    by bad h = refl
+    by (got v rest) h = absurd (both_ways _ refl ((starts_is Decides-eqb t w false e).1 rest (word_sound w t v rest h)))
+
+-- What stands at a place, and where it ends.
+pub word_at : (text : List ℕ) (at : ℕ) (w : List ℕ) → 0 < length w → length w ≤ length (drop at text) → true ≡ starts_with eqb (drop at text) w → EndOf text at (word w (drop at text)) (Some (at + length w))
+word_at text at w some short e =
+    let left : length (drop at text) ≡ length text - at = length-drop at text in
+    let moved : drop (at + length w) text ≡ drop (length w) (drop at text) = sym (drop-drop (length w) at text) in
+    subst (λ f. EndOf text at f (Some (at + length w))) (sym (word_starts w (drop at text) e))
+    (record { forward = omega arith; inside = omega arith; behind = moved })
+
+pub no_word_at : (text : List ℕ) (at : ℕ) (w : List ℕ) → false ≡ starts_with eqb (drop at text) w → EndOf text at (word w (drop at text)) None
+no_word_at text at w e = subst (λ f. EndOf text at f None) (sym (word_stops w (drop at text) e)) tt
+
+-- The answer about a word, by whether the text starts with it there.
+pub word_answered : (text : List ℕ) (at : ℕ) (w : List ℕ) (b : Bool) (r : Option ℕ) → b ≡ starts_with eqb (drop at text) w → (IsTrue b → length w ≤ length (drop at text)) → is_some r ≡ b → IfSome r (λ end. end ≡ at + length w) → 0 < length w → EndOf text at (word w (drop at text)) r
+word_answered text at w true (Some end) e short some is long =
+    subst (λ i. EndOf text at (word w (drop at text)) (Some i)) (sym is) (word_at text at w long (short refl) e)
+word_answered text at w false (Some end) e short some is long = absurd (both_ways _ some refl)
+word_answered text at w true None e short some is long = absurd (both_ways _ refl some)
+word_answered text at w false None e short some is long = no_word_at text at w e
+
+-- A word does not stand where its first byte does not.
+pub word_bad : (c : ℕ) (cs t : List ℕ) → first_is (eqb c) t ≡ false → word (c ∷ cs) t ≡ bad
 unfolding word
 word_bad c cs [] e = refl
 word_bad c cs (b ∷ t) e = rw (e, word)
-
--- At the front of the word's rest and of the text's: the bytes agree, or they do not, or the word is over.
-pub word_more : (w t : List ℕ) (i here : ℕ) → i < length w → first_is (eqb (get_or w i 0)) (drop here t) ≡ true → word (drop i w) (drop here t) ≡ word (drop (i + 1) w) (drop (here + 1) t)
-word_more w t i here lt holds =
-    let there : here < length t = first_there (eqb (get_or w i 0)) t here holds in
-    ap₂ word (drop_more w i 0 lt) (drop_more t here 0 there)
-    ∙ word_step (get_or w i 0) (drop (i + 1) w) (drop (here + 1) t) (get_or t here 0) (sym (first_inside (eqb (get_or w i 0)) t here 0 there) ∙ holds)
-
-pub word_stop : (w t : List ℕ) (i here : ℕ) → i < length w → first_is (eqb (get_or w i 0)) (drop here t) ≡ false → word (drop i w) (drop here t) ≡ bad
-word_stop w t i here lt fails = ap (λ v. word v (drop here t)) (drop_more w i 0 lt) ∙ word_bad (get_or w i 0) (drop (i + 1) w) (drop here t) fails
-
-pub word_over : (w t : List ℕ) (i : ℕ) → length w ≤ i → word (drop i w) t ≡ got tt t
-unfolding word
-word_over w t i le = ap (λ v. word v t) (drop_all i w le)
-
--- What is known before each byte of the word.
-pub record Reached (text : List ℕ) (at : ℕ) (w : List ℕ) (i here : ℕ) : Type 0 where
-  pub place : here ≡ at + i
-  pub inside : 0 < i → here ≤ length text
-  pub left : word w (drop at text) ≡ word (drop i w) (drop here text)
-
-pub reached_more : (text : List ℕ) (at : ℕ) (w : List ℕ) (i here : ℕ) → i < length w → first_is (eqb (get_or w i 0)) (drop here text) ≡ true → Reached text at w i here → Reached text at w (i + 1) (here + 1)
-reached_more text at w i here lt holds so_far =
-    let there : here < length text = first_there (eqb (get_or w i 0)) text here holds in
-    record {
-      place = omega arith;
-      inside = λ _. omega arith;
-      left = so_far.left ∙ word_more w text i here lt holds;
-    }
-
-pub reached_none : (text : List ℕ) (at : ℕ) (w : List ℕ) (i here : ℕ) → i < length w → first_is (eqb (get_or w i 0)) (drop here text) ≡ false → Reached text at w i here → EndOf text at (word w (drop at text)) None
-reached_none text at w i here lt fails so_far =
-    subst (λ f. EndOf text at f None) (sym (so_far.left ∙ word_stop w text i here lt fails)) tt
-
-pub reached_all : (text : List ℕ) (at : ℕ) (w : List ℕ) (i here : ℕ) → length w ≤ i → Reached text at w i here → 0 < length w → EndOf text at (word w (drop at text)) (Some here)
-reached_all text at w i here le so_far some =
-    subst (λ f. EndOf text at f (Some here)) (sym (so_far.left ∙ word_over w (drop here text) i le))
-    (record { forward = omega arith; inside = so_far.inside (omega arith); behind = refl })

@@ -3,3 +3,4 @@ pub mod Comments
 pub mod Lists
 pub mod Names
 pub mod Readings
+pub mod Spans

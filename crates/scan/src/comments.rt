@@ -1,14 +1,11 @@
 // Comments.
 
-ghost use Rattle.std.specs.Prelude.{◌≡◌, ◌+◌, ◌&&◌, drop, nat_eq};
-ghost use Rattle.scan.specs.Bytes.{first_is};
-ghost use Rattle.scan.specs.Comments.{read_comment, comment_rest};
+ghost use Rattle.std.specs.Prelude.{◌≡◌, drop};
+ghost use Rattle.scan.specs.Comments.{read_comment, comment_rest, goes_on, two_dashes, StopsAt};
 ghost use Rattle.scan.specs.Readings.{EndOf};
 
-use super::bytes::{byte_is, is_text_byte};
+use super::bytes::{is_text_byte, peek, rest};
 use super::words::word_end;
-
-const DASH: u8 = 45;
 
 // The place behind the comment, or none where no comment stands at the place.
 pub fn comment_end(text: &[u8], at: usize) -> Option<usize>
@@ -22,22 +19,27 @@ pub fn comment_end(text: &[u8], at: usize) -> Option<usize>
 fn comment_rest_end(text: &[u8], at: usize) -> Option<usize>
     ensures { EndOf text.now at (comment_rest (drop at text.now)) result }
 {
-    let mut here = at;
-    while here < text.len() {
-        if two_dashes(text, here) {
-            return word_end(text, here, b"-->");
-        }
-        if !is_text_byte(text[here]) {
-            return None;
-        }
-        here += 1;
-    }
-    None
+    let stop = stop(text, at)?;
+    word_end(text, stop, b"-->")
 }
 
-// Whether two dashes stand at the place.
-fn two_dashes(text: &[u8], at: usize) -> bool
-    ensures { result ≡ (first_is (nat_eq 45) (drop at text.now) && first_is (nat_eq 45) (drop (at + 1) text.now)) }
+// The first place from this one on where what a comment holds does not go on.
+fn stop(text: &[u8], at: usize) -> Option<usize>
+    ensures { StopsAt text.now at result }
 {
-    byte_is(text, at, DASH) && byte_is(text, at + 1, DASH)
+    (at..text.len()).find(|here| !goes_on(text, *here))
+}
+
+// Whether what a comment holds goes on with the byte at the place.
+fn goes_on(text: &[u8], at: usize) -> bool
+    ensures { result ≡ goes_on (drop at text.now) }
+{
+    peek(text, at).is_some_and(is_text_byte) && !two_dashes(rest(text, at))
+}
+
+// Whether two dashes stand at the front of the text.
+fn two_dashes(text: &[u8]) -> bool
+    ensures { result ≡ two_dashes text.now }
+{
+    text.starts_with(b"--")
 }

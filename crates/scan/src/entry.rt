@@ -1,9 +1,10 @@
 // Where a declared name stands.
 
-// The record of a declaration: its place, and the places of its name, from start up to, and without, end.
-#[derive(Clone, Copy)]
+use super::span::Span;
+
+// The record of a declaration: its place, and the places of its name.
+#[derive(Clone, Copy, PartialEq, Eq, Debug)]
 pub struct Entry {
     pub place: usize,
-    pub start: usize,
-    pub end: usize,
+    pub name: Span,
 }

@@ -1,7 +1,7 @@
-// Names in tables: whether two are the same, the name of an entry, and the number of a name.
+// Names in tables: whether two are the same, and the number of a name.
 
-ghost use Rattle.std.specs.Prelude.{◌≡◌, take};
-ghost use Rattle.scan.specs.Lists.{same, number_of, name_at, names_at};
+ghost use Rattle.std.specs.Prelude.{◌≡◌, take, position};
+ghost use Rattle.scan.specs.Lists.{same, number_of, NumberIs, name_at, names_at};
 
 use super::entry::Entry;
 
@@ -15,24 +15,20 @@ pub fn same_name(a: &[u8], b: &[u8]) -> bool
     a == b
 }
 
-// The name of an entry: of its places those that the text has.
-pub fn name_of<'t>(text: &'t [u8], entry: Entry) -> &'t [u8]
-    ensures { result.now ≡ name_at text.now entry }
+// The number of a name: the first of the first 63 entries that has it, counted from 1, or none where none has.
+pub fn number_of(text: &[u8], entries: &[Entry], name: &[u8]) -> Option<u8>
+    ensures { NumberIs (number_of (names_at text.now (take 63 entries.now)) name.now) result }
 {
-    let end = entry.end.min(text.len());
-    let start = entry.start.min(end);
-    &text[start..end]
+    let index = index_of(text, entries, name)?;
+    Some((index + 1) as u8)
 }
 
-// The number of a name: the first of the first 63 entries that has it, counted from 1, or 0 where none has.
-pub fn number_of(text: &[u8], entries: &[Entry], name: &[u8]) -> u8
-    ensures { result ≡ number_of (names_at text.now (take 63 entries.now)) name.now }
+// The first of the first 63 entries that has the name.
+fn index_of(text: &[u8], entries: &[Entry], name: &[u8]) -> Option<usize>
+    ensures { result ≡ position (λ entry. same (name_at text.now entry) name.now) (take 63 entries.now) }
 {
-    let count = entries.len().min(MOST_NAMES);
-    for index in 0..count {
-        if same_name(name_of(text, entries[index]), name) {
-            return (index + 1) as u8;
-        }
-    }
-    0
+    entries
+        .iter()
+        .take(MOST_NAMES)
+        .position(|entry| same_name(entry.name.bytes(text), name))
 }

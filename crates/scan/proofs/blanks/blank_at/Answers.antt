@@ -1,15 +1,7 @@
-use Rattle.std.proofs.Common.{◌<◌, ◌≤◌, length, sym, ◌∙◌, arith}
+use Rattle.std.proofs.Common.{rules}
 use Rattle.scan.specs.Bytes.{is_blank}
-use Rattle.std.proofs.lemmas.Bool.{le-ltb}
-use Rattle.scan.proofs.Fronts.{first_inside, first_past}
+use Rattle.scan.proofs.Fronts.{first_asked}
 use Rattle.scan.proofs.blanks.blank_at.Goals as goal
 
-pub returns-then-at-text : goal.returns-then-at-text
-returns-then-at-text c =
-    let lt : c.args.at < length c.args.text.now = omega arith in
-    c.is_blank.ensures ∙ sym (first_inside is_blank c.args.text.now c.args.at 0 lt)
-
-pub returns-else-at-text : goal.returns-else-at-text
-returns-else-at-text c =
-    let le : length c.args.text.now ≤ c.args.at = omega arith in
-    le-ltb _ _ le ∙ sym (first_past is_blank c.args.text.now c.args.at le)
+pub returns : goal.returns
+returns c = first_asked is_blank c.args.text.now c.args.at c.peek.result c.is_some_and.result c.peek.ensures (search rules)

@@ -1,29 +1,27 @@
-use Rattle.std.proofs.Common.{◌≡◌, ◌<◌, true, false, length, drop, sym, ◌∙◌, arith, rules}
-use Rattle.scan.specs.Bytes.{is_blank, first_is}
-use Rattle.scan.proofs.Fronts.{first_there, skip_blank, skip_none}
+use Rattle.std.proofs.Common.{◌≡◌, ◌-◌, ◌≤◌, length, drop, sym, ap, ◌∙◌, length-drop, drop-drop, rules, arith}
+use Rattle.std.specs.List.{prefix_len}
+use Rattle.std.proofs.lemmas.List.Sums.{prefix_len-le-length}
+use Rattle.scan.specs.Bytes.{is_blank}
+use Rattle.scan.proofs.Skipping.{skip_leading}
 use Rattle.scan.proofs.blanks.skip_blanks.Goals as goal
 
-pub overflow_add-here : goal.overflow_add-here
-overflow_add-here c =
-    let there : c.loop-here.here < length c.args.text.now = first_there is_blank c.args.text.now c.loop-here.here (sym c.blank_at.ensures ∙ c.loop-here-test.true) in
+short : (c : goal.After-leading_blanks) → c.leading_blanks.result ≤ length c.args.text.now - c.args.at
+short c =
+    let few = prefix_len-le-length is_blank c.rest.result.now in
+    let left : length c.rest.result.now ≡ length c.args.text.now - c.args.at = ap length c.rest.ensures ∙ length-drop c.args.at c.args.text.now in
+    omega (arith, few)
+
+pub overflow_add-result : goal.overflow_add-result
+overflow_add-result c =
+    let h = short c in
     search rules
-
-pub loop-here-smaller : goal.loop-here-smaller
-loop-here-smaller c =
-    let there : c.loop-here.here < length c.args.text.now = first_there is_blank c.args.text.now c.loop-here.here (sym c.blank_at.ensures ∙ c.loop-here-test.true) in
-    omega arith
-
-pub loop-here-preserved : goal.loop-here-preserved
-loop-here-preserved c =
-    let blank : first_is is_blank (drop c.loop-here.here c.args.text.now) ≡ true = sym c.blank_at.ensures ∙ c.loop-here-test.true in
-    let there : c.loop-here.here < length c.args.text.now = first_there is_blank c.args.text.now c.loop-here.here blank in
-    (sym (skip_blank c.args.text.now c.loop-here.here blank) ∙ c.loop-here.invariant.0, omega arith, λ h. omega arith)
 
 pub returns : goal.returns
 returns c =
-    let none : first_is is_blank (drop c.loop-here.here c.args.text.now) ≡ false = sym c.blank_at.ensures ∙ c.loop-here-test.false in
+    let h = short c in
+    let same : c.leading_blanks.result ≡ prefix_len is_blank (drop c.args.at c.args.text.now) = c.leading_blanks.ensures ∙ ap (prefix_len is_blank) c.rest.ensures in
     record {
-      behind = sym (skip_none c.args.text.now c.loop-here.here none) ∙ c.loop-here.invariant.0;
+      behind = sym (skip_leading (drop c.args.at c.args.text.now) ∙ ap (λ k. drop k (drop c.args.at c.args.text.now)) (sym same) ∙ drop-drop c.leading_blanks.result c.args.at c.args.text.now);
       forward = omega arith;
-      inside = c.loop-here.invariant.2;
+      inside = λ k. omega arith;
     }

@@ -1,14 +1,5 @@
-use Rattle.std.proofs.Common.{◌<◌, ◌≤◌, eqb, length, sym, ◌∙◌, arith}
-use Rattle.std.proofs.lemmas.Bool.{le-ltb}
-use Rattle.scan.proofs.Fronts.{first_inside, first_past}
+use Rattle.scan.proofs.Fronts.{first_compared}
 use Rattle.scan.proofs.bytes.byte_is.Goals as goal
 
-pub returns-then-at-text : goal.returns-then-at-text
-returns-then-at-text c =
-    let lt : c.args.at < length c.args.text.now = omega arith in
-    sym (first_inside (eqb c.args.byte) c.args.text.now c.args.at 0 lt)
-
-pub returns-else-at-text : goal.returns-else-at-text
-returns-else-at-text c =
-    let le : length c.args.text.now ≤ c.args.at = omega arith in
-    le-ltb _ _ le ∙ sym (first_past (eqb c.args.byte) c.args.text.now c.args.at le)
+pub returns : goal.returns
+returns c = first_compared c.args.byte c.args.text.now c.args.at c.peek.result c.eq.result c.peek.ensures c.eq.ensures

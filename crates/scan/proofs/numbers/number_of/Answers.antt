@@ -1,41 +1,26 @@
-use Rattle.std.proofs.Common.{◌≡◌, ◌<◌, min, true, false, length, get_or, take, sym, ap, ◌∙◌, arith, length-take}
-use Rattle.std.proofs.lemmas.List.{get_or-take}
-use Rattle.scan.specs.Lists.{same, name_at, zero_entry}
-use Rattle.scan.proofs.Numbering.{shifted_start, number_here, number_later, number_nowhere}
+use Rattle.std.proofs.Common.{◌≡◌, ◌+◌, ◌<◌, min, length, take, Some, sym, subst, ◌∙◌, arith, length-take, rules}
+use Rattle.scan.specs.Lists.{number_of, names_at, NumberIs}
+use Rattle.scan.proofs.Numbering.{placed, Found}
 use Rattle.scan.proofs.numbers.number_of.Goals as goal
 
-pub loop-index-init : goal.loop-index-init
-loop-index-init c = shifted_start _
+there : (c : goal.In_ok-index) → Found c.args.text.now c.args.name.now 0 (take 63 c.args.entries.now) (number_of (names_at c.args.text.now (take 63 c.args.entries.now)) c.args.name.now) (Some c.in_ok-index.index)
+there c = placed c.args.text.now c.args.name.now (take 63 c.args.entries.now) (Some c.in_ok-index.index) (sym c.in_ok-index.was ∙ c.index_of.ensures)
 
-pub loop-index-preserved : goal.loop-index-preserved
-loop-index-preserved c =
-    let text = c.args.text.now in
-    let es = c.args.entries.now in
-    let name = c.args.name.now in
-    let i = c.loop-index.index in
-    let count : length (take 63 es) ≡ min 63 (length es) = length-take 63 es in
-    let lt : i < 63 = omega arith in
-    let apart : same (name_at text (get_or (take 63 es) i zero_entry)) name ≡ false =
-    ap (λ e. same (name_at text e) name) (get_or-take 63 es i zero_entry lt) ∙ ap (λ n. same n name) (sym c.name_of.ensures) ∙ sym c.same_name.ensures ∙ c.if-same_name.false in
-    c.loop-index.invariant ∙ number_later text (take 63 es) name i zero_entry (omega arith) apart
+pub returns-in_err-index : goal.returns-in_err-index
+returns-in_err-index c =
+    subst (NumberIs _) (sym c.from_residual.ensures) (placed c.args.text.now c.args.name.now (take 63 c.args.entries.now) _ (sym c.in_err-index.was ∙ c.index_of.ensures))
 
-pub returns-then-same_name : goal.returns-then-same_name
-returns-then-same_name c =
-    let text = c.args.text.now in
-    let es = c.args.entries.now in
-    let name = c.args.name.now in
-    let i = c.loop-index.index in
-    let count : length (take 63 es) ≡ min 63 (length es) = length-take 63 es in
-    let lt : i < 63 = omega arith in
-    let this : same (name_at text (get_or (take 63 es) i zero_entry)) name ≡ true =
-    ap (λ e. same (name_at text e) name) (get_or-take 63 es i zero_entry lt) ∙ ap (λ n. same n name) (sym c.name_of.ensures) ∙ sym c.same_name.ensures ∙ c.if-same_name.true in
-    sym (c.loop-index.invariant ∙ number_here text (take 63 es) name i zero_entry (omega arith) this)
+pub overflow_add-result : goal.overflow_add-result
+overflow_add-result c =
+    let inside : c.in_ok-index.index < 0 + length (take 63 c.args.entries.now) = (there c).2 in
+    let few : length (take 63 c.args.entries.now) ≡ min 63 (length c.args.entries.now) = length-take 63 c.args.entries.now in
+    search (rules, arith)
+
+pub overflow_cast-result : goal.overflow_cast-result
+overflow_cast-result c =
+    let inside : c.in_ok-index.index < 0 + length (take 63 c.args.entries.now) = (there c).2 in
+    let few : length (take 63 c.args.entries.now) ≡ min 63 (length c.args.entries.now) = length-take 63 c.args.entries.now in
+    search (rules, arith)
 
 pub returns : goal.returns
-returns c =
-    let text = c.args.text.now in
-    let es = c.args.entries.now in
-    let name = c.args.name.now in
-    let i = c.loop-index.index in
-    let count : length (take 63 es) ≡ min 63 (length es) = length-take 63 es in
-    sym (c.loop-index.invariant ∙ number_nowhere text (take 63 es) name i (omega arith))
+returns c = let it : _ + 0 ≡ c.in_ok-index.index + 1 = (there c).0 in (omega arith, omega arith)
