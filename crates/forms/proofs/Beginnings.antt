@@ -8,7 +8,7 @@ use Rattle.forms.specs.Grammar.{in_sequence, as_alternatives, opening, any_numbe
 use Rattle.forms.specs.Inner.{OpenedAt, OpenedBy, read_opened}
 use Rattle.forms.specs.Readers.{read_members, read_marked, or_else, read_by_word}
 use Rattle.forms.specs.declared.openings.Opening.{Opening}
-use Rattle.forms.specs.declared.read.Read.{Read}
+use Rattle.scan.specs.declared.read.Read.{Read}
 
 abbrev pub Reading : Type 0
 Reading = List ℕ → Front (Exp ByteRange)

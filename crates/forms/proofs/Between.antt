@@ -10,7 +10,7 @@ use Rattle.scan.proofs.Ends.{worded, end_bad}
 use Rattle.forms.specs.Inner.{NumeralAt, RangeAt}
 use Rattle.forms.specs.Numbers.{is_small, small_enough, read_byte}
 use Rattle.forms.specs.Readers.{range_by, range_from, shut_range, with_high, behind_low, with_low, read_range}
-use Rattle.forms.specs.declared.read.Read.{Read}
+use Rattle.scan.specs.declared.read.Read.{Read}
 
 -- Two ranges with the same ends are the same: that the ends are in order is told in one way only.
 pub range_same : (a b : ByteRange) → a.low ≡ b.low → a.high ≡ b.high → a ≡ b

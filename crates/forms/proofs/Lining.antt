@@ -14,8 +14,8 @@ use Rattle.forms.specs.Grammar.{deepest}
 use Rattle.forms.specs.Inner.{ExpressionAt, WritesAt}
 use Rattle.forms.specs.Readers.{read_expression, shut_line, with_shape, behind_name, with_name, behind_bracket, read_line}
 use Rattle.forms.specs.declared.lines.Lined.{Lined}
-use Rattle.forms.specs.declared.read.Read.{Read}
-use Rattle.forms.specs.declared.read.Span.{Span}
+use Rattle.scan.specs.declared.read.Read.{Read}
+use Rattle.scan.specs.declared.span.Span.{Span}
 
 module _ (text : List ℕ) (at : ℕ) where
   pub no_bracket : EndOf text at (word (codes "[") (drop at text)) None → read_line (drop at text) ≡ bad
@@ -91,7 +91,7 @@ module _ (text : List ℕ) (at : ℕ) where
   no_line before r after none h = subst (λ o. WritesAt text at before o after) (sym none) h
 
   -- With nothing written before, the writer has counted the atoms and nodes of the form.
-  pub told : (before : Writer ByteRange) (line : Read Span) (after : Writer ByteRange) → before.used ≡ 0 → before.atoms ≡ 0 → line.end < 2 ^ 64 → WritesAt text at before (Some line) after → FormAt text at (Some (record { name_start = line.value.start; name_end = line.value.end; end = line.end; atoms = after.atoms; nodes = after.used }))
+  pub told : (before : Writer ByteRange) (line : Read Span) (after : Writer ByteRange) → before.used ≡ 0 → before.atoms ≡ 0 → line.end < 2 ^ 64 → WritesAt text at before (Some line) after → FormAt text at (Some (record { name = line.value; end = line.end; atoms = after.atoms; nodes = after.used }))
   told before line after unused no_atoms short (form, rest, reads, is, wrote) =
       let nodes : after.used ≡ length (code form.shape) = omega (arith, is.small, wrote.used.exact (omega (arith, is.small))) in
       let atoms : after.atoms ≡ atoms form.shape =

@@ -19,7 +19,7 @@ use Rattle.forms.specs.Grammar.{Joint, join, marked}
 use Rattle.forms.specs.Inner.{RangeAt, OpenedAt, read_opened, PartIs, ExpressionAt, joint_of, mark_of, read_more}
 use Rattle.forms.specs.Readers.{joined_by, member, shut, ended, with_second, behind_first, with_first, read_members, with_inside, read_marked, read_range, read_by_word, read_expression}
 use Rattle.forms.specs.declared.openings.Opening.{Opening}
-use Rattle.forms.specs.declared.read.Read.{Read}
+use Rattle.scan.specs.declared.read.Read.{Read}
 use Rattle.forms.proofs.Digits.{flip}
 use Rattle.forms.proofs.Parts.{part_wider, part_from, part_range, part_push, part_joined, join_code, mark_code}
 

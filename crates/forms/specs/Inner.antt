@@ -3,7 +3,7 @@ use Rattle.std.specs.Prelude.{◌≡◌, ℕ, ◌+◌, ◌<◌, ◌≤◌, List,
 use Rattle.engine.specs.declared.range.ByteRange.{ByteRange}
 use Rattle.models.specs.Expressions.{Exp, atom}
 use Rattle.models.specs.Folds.{code}
-use Rattle.scan.specs.Lists.{name_at}
+use Rattle.scan.specs.Spans.{bytes_at}
 use Rattle.scan.specs.Readings.{Front, bad, got, word, run, Stands, EndOf}
 use Rattle.writing.specs.Wrote.{Wrote}
 use Rattle.writing.specs.declared.signs.Joint as joint
@@ -16,8 +16,8 @@ use Rattle.forms.specs.Numbers.{value_of, read_byte}
 use Rattle.forms.specs.Readers.{read_range, read_members, read_marked, read_by_word, read_expression, member, ended, read_line}
 use Rattle.forms.specs.declared.openings.Opening.{Opening}
 use Rattle.forms.specs.declared.openings.Opening.TheVariants.{Range, Members, Marked}
-use Rattle.forms.specs.declared.read.Read.{Read}
-use Rattle.forms.specs.declared.read.Span.{Span}
+use Rattle.scan.specs.declared.read.Read.{Read}
+use Rattle.scan.specs.declared.span.Span.{Span}
 
 -- What is answered about the number that digits write: none where it is no byte.
 abbrev pub ValueIs : List ℕ → Option ℕ → Type 0
@@ -87,7 +87,7 @@ read_more left joint so_far t = ended (run (member (read_expression left) joint)
 pub record LineIs (text : List ℕ) (at : ℕ) (form : Form) (rest : List ℕ) (line : Read Span) : Type 0 where
   pub stands : Stands text at rest line.end
   pub longer : at < line.end
-  pub name : name_at text (record { place = at; start = line.value.start; end = line.value.end }) ≡ form.name
+  pub name : bytes_at text line.value ≡ form.name
   pub name_starts : line.value.start ≡ at + 1
   pub name_forward : line.value.start ≤ line.value.end
   pub name_before : line.value.end ≤ line.end

@@ -6,6 +6,5 @@ mod lines;
 mod nesting;
 mod numerals;
 mod openings;
-mod read;
 
 pub use lines::{Lined, form_at, write_form};

@@ -6,21 +6,18 @@ ghost use Rattle.forms.specs.Inner.{WritesAt};
 ghost use Rattle.forms.specs.Readers.{read_line};
 
 use super::nesting::expression;
-use super::read::{Read, Span};
 use engine::ByteRange;
 use models::Node;
-use scan::{name_end, word_end};
+use scan::{Read, Span, name_end, word_end};
 use writing::Writer;
 
 // Brackets inside the line's own nest at most so deep.
 const DEEPEST: u8 = 15;
 
-// Where the name of a form stands, from start up to, and without, end; where the line ends; and how many atoms and
-// nodes its expression has.
-#[derive(Clone, Copy)]
+// Where the name of a form stands, where its line ends, and how many atoms and nodes its expression has.
+#[derive(Clone, Copy, PartialEq, Eq, Debug)]
 pub struct Lined {
-    pub name_start: usize,
-    pub name_end: usize,
+    pub name: Span,
     pub end: usize,
     pub atoms: usize,
     pub nodes: usize,
@@ -49,8 +46,7 @@ pub fn form_at(text: &[u8], at: usize) -> Option<Lined>
     let mut writer = Writer::new(&mut [], 0);
     let placed = line(text, at, &mut writer)?;
     Some(Lined {
-        name_start: placed.value.start,
-        name_end: placed.value.end,
+        name: placed.value,
         end: placed.end,
         atoms: writer.atoms,
         nodes: writer.used,

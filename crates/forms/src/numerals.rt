@@ -5,9 +5,8 @@ ghost use Rattle.std.specs.List.{prefix_len};
 ghost use Rattle.forms.specs.Inner.{NumeralAt, RangeAt, ValueIs};
 ghost use Rattle.forms.specs.Numbers.{is_digit, no_leading_zero};
 
-use super::read::Read;
 use engine::ByteRange;
-use scan::word_end;
+use scan::{Read, rest, word_end};
 
 // How many digits a text begins with.
 fn digits_len(text: &[u8]) -> usize
@@ -21,7 +20,7 @@ fn digits_len(text: &[u8]) -> usize
 fn digits_at<'t>(text: &'t [u8], at: usize) -> &'t [u8]
     ensures { result.now ≡ take (prefix_len is_digit (drop at text.now)) (drop at text.now) }
 {
-    let rest = text.get(at..).unwrap_or(&[]);
+    let rest = rest(text, at);
     &rest[..digits_len(rest)]
 }
 

@@ -2,8 +2,7 @@
 
 ghost use Rattle.forms.specs.Inner.{OpenedAt, OpenedBy};
 
-use super::read::Read;
-use scan::word_end;
+use scan::{Read, word_end};
 use writing::{Joint, Mark};
 
 // What an opening word says of the expression.
