@@ -51,7 +51,7 @@ module _ (text : List ℕ) (at : ℕ) where
         unfolding with_shape
         no_shape e = before_shape ∙ ap (with_shape (take (name - start) (drop start text))) e
 
-        module _ (before : Writer ByteRange) (bracket : ℕ) (after : Writer ByteRange) (p : ExpressionAt text shape (read_expression deepest (drop shape text)) before (Some bracket) after) where
+        module _ (before : Writer ByteRange (Unit {0})) (bracket : ℕ) (after : Writer ByteRange (Unit {0})) (p : ExpressionAt text shape (read_expression deepest (drop shape text)) before (Some bracket) after) where
           before_end : read_line (drop at text) ≡ shut_line (record { name = take (name - start) (drop start text); shape = p.0 }) (word (93 ∷ (10 ∷ [])) (drop bracket text))
           unfolding with_shape
           before_end =
@@ -87,11 +87,11 @@ module _ (text : List ℕ) (at : ℕ) where
                 q.wrote,
               )
 
-  pub no_line : (before : Writer ByteRange) (r : Option (Read Span)) (after : Writer ByteRange) → r ≡ None → read_line (drop at text) ≡ bad → WritesAt text at before r after
+  pub no_line : (before : Writer ByteRange (Unit {0})) (r : Option (Read Span)) (after : Writer ByteRange (Unit {0})) → r ≡ None → read_line (drop at text) ≡ bad → WritesAt text at before r after
   no_line before r after none h = subst (λ o. WritesAt text at before o after) (sym none) h
 
   -- With nothing written before, the writer has counted the atoms and nodes of the form.
-  pub told : (before : Writer ByteRange) (line : Read Span) (after : Writer ByteRange) → before.used ≡ 0 → before.atoms ≡ 0 → line.end < 2 ^ 64 → WritesAt text at before (Some line) after → FormAt text at (Some (record { name = line.value; end = line.end; atoms = after.atoms; nodes = after.used }))
+  pub told : (before : Writer ByteRange (Unit {0})) (line : Read Span) (after : Writer ByteRange (Unit {0})) → before.used ≡ 0 → before.atoms ≡ 0 → line.end < 2 ^ 64 → WritesAt text at before (Some line) after → FormAt text at (Some (record { name = line.value; end = line.end; atoms = after.atoms; nodes = after.used }))
   told before line after unused no_atoms short (form, rest, reads, is, wrote) =
       let nodes : after.used ≡ length (code form.shape) = omega (arith, is.small, wrote.used.exact (omega (arith, is.small))) in
       let atoms : after.atoms ≡ atoms form.shape =
@@ -117,7 +117,7 @@ module _ (text : List ℕ) (at : ℕ) where
   form_none table used None none h = sym (ap (λ f. with_form f table used) h)
   form_none table used (Some told) none h = absurd (false≢true (sym none))
 
-  pub form_some : (before : Writer ByteRange) (told : Option Lined) (r : Option (Read Span)) (after : Writer ByteRange) → is_some told ≡ true → FormAt text at told → WritesAt text at before r after → after.nodes.now ≡ with_form (read_line (drop at text)) before.nodes.now before.used
+  pub form_some : (before : Writer ByteRange (Unit {0})) (told : Option Lined) (r : Option (Read Span)) (after : Writer ByteRange (Unit {0})) → is_some told ≡ true → FormAt text at told → WritesAt text at before r after → after.nodes.now ≡ with_form (read_line (drop at text)) before.nodes.now before.used
   unfolding with_form
   form_some before None r after some there h = absurd (false≢true some)
   form_some before (Some told) None after some (form, rest, reads, is) h = absurd (let wrong : ◌≡◌ {A = ℕ} 0 1 = cc in omega arith)

@@ -73,7 +73,7 @@ module _ (inner : List ℕ → Front (Exp ByteRange)) (joint : Joint) (e : Exp B
   member_next f t rest h k g = member_more t h k ∙ ap (joined_by joint e) g
 
 -- Inside a list: the members so far make an expression, and the turns that are left give the whole list.
-pub record Going (text : List ℕ) (at left : ℕ) (j : joint.Joint) (whole : Front (Exp ByteRange)) (before : Writer ByteRange) (end : ℕ) (after : Writer ByteRange) : Type 0 where
+pub record Going (text : List ℕ) (at left : ℕ) (j : joint.Joint) (whole : Front (Exp ByteRange)) (before : Writer ByteRange (Unit {0})) (end : ℕ) (after : Writer ByteRange (Unit {0})) : Type 0 where
   pub all : Run (Exp ByteRange)
   pub so_far : Exp ByteRange
   pub rest : List ℕ
@@ -81,12 +81,12 @@ pub record Going (text : List ℕ) (at left : ℕ) (j : joint.Joint) (whole : Fr
   pub gives : ended all ≡ whole
   pub is : PartIs text at so_far rest before end after
 
-pub going_start : (text : List ℕ) (at left : ℕ) (j : joint.Joint) (e : Exp ByteRange) (rest : List ℕ) (before : Writer ByteRange) (end : ℕ) (after : Writer ByteRange) → PartIs text at e rest before end after → Going text at left j (read_more left (joint_of j) e rest) before end after
+pub going_start : (text : List ℕ) (at left : ℕ) (j : joint.Joint) (e : Exp ByteRange) (rest : List ℕ) (before : Writer ByteRange (Unit {0})) (end : ℕ) (after : Writer ByteRange (Unit {0})) → PartIs text at e rest before end after → Going text at left j (read_more left (joint_of j) e rest) before end after
 going_start text at left j e rest before end after p =
     let turn = member (read_expression left) (joint_of j) in
     record { all = run turn e rest; so_far = e; rest = rest; turning = turning_start turn e rest; gives = refl; is = p }
 
-module _ (text : List ℕ) (at left : ℕ) (j : joint.Joint) (whole : Front (Exp ByteRange)) (before : Writer ByteRange) (end : ℕ) (after : Writer ByteRange) (g : Going text at left j whole before end after) where
+module _ (text : List ℕ) (at left : ℕ) (j : joint.Joint) (whole : Front (Exp ByteRange)) (before : Writer ByteRange (Unit {0})) (end : ℕ) (after : Writer ByteRange (Unit {0})) (g : Going text at left j whole before end after) where
   abbrev turn : Exp ByteRange → List ℕ → Turn (Exp ByteRange)
   turn = member (read_expression left) (joint_of j)
 
@@ -125,7 +125,7 @@ module _ (text : List ℕ) (at left : ℕ) (j : joint.Joint) (whole : Front (Exp
     list_no_member b =
         stops (member_bad (read_expression left) (joint_of j) g.so_far g.rest not-over (there 32 true space) (ap (read_expression left) behind_space ∙ b))
 
-    pub list_member : (last : ℕ) (two made : Writer ByteRange) → ExpressionAt text (end + 1) (read_expression left (drop (end + 1) text)) after (Some last) two → Wrote two (joint_node j ∷ []) made → Going text at left j whole before last made
+    pub list_member : (last : ℕ) (two made : Writer ByteRange (Unit {0})) → ExpressionAt text (end + 1) (read_expression left (drop (end + 1) text)) after (Some last) two → Wrote two (joint_node j ∷ []) made → Going text at left j whole before last made
     list_member last two made (f, rest, reads, q) wrote =
         let e = g.so_far in
         let stepped = member_next (read_expression left) (joint_of j) e f g.rest rest not-over (there 32 true space) (ap (read_expression left) behind_space ∙ reads) in
@@ -142,7 +142,7 @@ module _ (text : List ℕ) (at left : ℕ) (j : joint.Joint) (whole : Front (Exp
         }
 
 -- The first two members, from behind the opening word on.
-module _ (text : List ℕ) (at left : ℕ) (j : joint.Joint) (before : Writer ByteRange) where
+module _ (text : List ℕ) (at left : ℕ) (j : joint.Joint) (before : Writer ByteRange (Unit {0})) where
   abbrev whole : Front (Exp ByteRange)
   whole = read_members (read_expression left) (joint_of j) (drop at text)
 
@@ -150,7 +150,7 @@ module _ (text : List ℕ) (at left : ℕ) (j : joint.Joint) (before : Writer By
   unfolding with_first
   no_first b = ap (with_first (read_expression left) (joint_of j)) b
 
-  module _ (first : ℕ) (mid : Writer ByteRange) (f : ExpressionAt text at (read_expression left (drop at text)) before (Some first) mid) where
+  module _ (first : ℕ) (mid : Writer ByteRange (Unit {0})) (f : ExpressionAt text at (read_expression left (drop at text)) before (Some first) mid) where
     behind_it : whole ≡ behind_first (read_expression left) (joint_of j) f.0 (word (codes " ") (drop first text))
     unfolding with_first
     behind_it =
@@ -173,13 +173,13 @@ module _ (text : List ℕ) (at left : ℕ) (j : joint.Joint) (before : Writer By
       no_second b = before_second ∙ ap (with_second (read_expression left) (joint_of j) f.0) b
 
       -- What is known of the two, joined.
-      pub record Two (end : ℕ) (after : Writer ByteRange) : Type 0 where
+      pub record Two (end : ℕ) (after : Writer ByteRange (Unit {0})) : Type 0 where
         pub both : Exp ByteRange
         pub rest : List ℕ
         pub reads : read_members (read_expression left) (joint_of j) (drop at text) ≡ read_more left (joint_of j) both rest
         pub is : PartIs text at both rest before end after
 
-      pub two_members : (second : ℕ) (two after : Writer ByteRange) → ExpressionAt text space (read_expression left (drop space text)) mid (Some second) two → Wrote two (joint_node j ∷ []) after → Two second after
+      pub two_members : (second : ℕ) (two after : Writer ByteRange (Unit {0})) → ExpressionAt text space (read_expression left (drop space text)) mid (Some second) two → Wrote two (joint_node j ∷ []) after → Two second after
       unfolding with_second
       two_members second two after (g, rest, reads, q) wrote =
           let e = f.0 in
@@ -192,12 +192,12 @@ module _ (text : List ℕ) (at left : ℕ) (j : joint.Joint) (before : Writer By
           }
 
 -- What a mark is put on.
-module _ (text : List ℕ) (at left : ℕ) (m : mark.Mark) (before : Writer ByteRange) where
+module _ (text : List ℕ) (at left : ℕ) (m : mark.Mark) (before : Writer ByteRange (Unit {0})) where
   pub no_inside : read_expression left (drop at text) ≡ bad → read_marked (read_expression left) (mark_of m) (drop at text) ≡ bad
   unfolding with_inside
   no_inside b = ap (with_inside (mark_of m)) b
 
-  module _ (inner : ℕ) (mid : Writer ByteRange) (f : ExpressionAt text at (read_expression left (drop at text)) before (Some inner) mid) where
+  module _ (inner : ℕ) (mid : Writer ByteRange (Unit {0})) (f : ExpressionAt text at (read_expression left (drop at text)) before (Some inner) mid) where
     before_end : read_marked (read_expression left) (mark_of m) (drop at text) ≡ shut (marked (mark_of m) f.0) (word (codes "]") (drop inner text))
     unfolding with_inside
     before_end =
@@ -209,7 +209,7 @@ module _ (text : List ℕ) (at left : ℕ) (m : mark.Mark) (before : Writer Byte
     not_shut h =
         before_end ∙ ap (shut (marked (mark_of m) f.0)) (end_bad text inner (word (codes "]") (drop inner text)) h)
 
-    pub mark_there : (end : ℕ) → EndOf text inner (word (codes "]") (drop inner text)) (Some end) → (after : Writer ByteRange) → Wrote mid (mark_node m ∷ []) after → ExpressionAt text at (read_marked (read_expression left) (mark_of m) (drop at text)) before (Some end) after
+    pub mark_there : (end : ℕ) → EndOf text inner (word (codes "]") (drop inner text)) (Some end) → (after : Writer ByteRange (Unit {0})) → Wrote mid (mark_node m ∷ []) after → ExpressionAt text at (read_marked (read_expression left) (mark_of m) (drop at text)) before (Some end) after
     unfolding shut
     mark_there end h after wrote =
         let w = worded (codes "]") text inner end h in (
@@ -236,7 +236,7 @@ reads_opened text at left opened opening some o is =
     ∙ ap (λ x. read_opened (read_expression (left - 1)) x (drop opened.end text)) is
 
 -- A range, behind its opening word.
-pub range_there : (text : List ℕ) (at start : ℕ) (front : Front (Exp ByteRange)) (before : Writer ByteRange) (range : Read ByteRange) (after : Writer ByteRange) → at < start → front ≡ read_range (drop start text) → RangeAt text start (Some range) → Wrote before (node.Atom range.value ∷ []) after → ExpressionAt text at front before (Some range.end) after
+pub range_there : (text : List ℕ) (at start : ℕ) (front : Front (Exp ByteRange)) (before : Writer ByteRange (Unit {0})) (range : Read ByteRange) (after : Writer ByteRange (Unit {0})) → at < start → front ≡ read_range (drop start text) → RangeAt text start (Some range) → Wrote before (node.Atom range.value ∷ []) after → ExpressionAt text at front before (Some range.end) after
 range_there text at start front before range after earlier same (rest, reads, stands, longer) wrote =
     let p = part_range text start range.value rest before range.end after stands longer wrote in
     (atom range.value, rest, same ∙ reads, part_from text at start (atom range.value) rest before range.end after (omega arith) p)

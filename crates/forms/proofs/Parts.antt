@@ -28,7 +28,7 @@ mark_code Perhaps e = refl
 
 module _ (text : List ℕ) where
   -- Read up to a later end.
-  pub part_wider : (at : ℕ) (e : Exp ByteRange) (rest later : List ℕ) (before : Writer ByteRange) (end last : ℕ) (after : Writer ByteRange) → end ≤ last → last ≤ length text → drop last text ≡ later → PartIs text at e rest before end after → PartIs text at e later before last after
+  pub part_wider : (at : ℕ) (e : Exp ByteRange) (rest later : List ℕ) (before : Writer ByteRange (Unit {0})) (end last : ℕ) (after : Writer ByteRange (Unit {0})) → end ≤ last → last ≤ length text → drop last text ≡ later → PartIs text at e rest before end after → PartIs text at e later before last after
   part_wider at e rest later before end last after longer inside there p =
       record {
         stands = record { forward = omega (arith, p.stands.forward); inside = inside; behind = there };
@@ -37,7 +37,7 @@ module _ (text : List ℕ) where
       }
 
   -- Read from an earlier place on.
-  pub part_from : (at start : ℕ) (e : Exp ByteRange) (rest : List ℕ) (before : Writer ByteRange) (end : ℕ) (after : Writer ByteRange) → at ≤ start → PartIs text start e rest before end after → PartIs text at e rest before end after
+  pub part_from : (at start : ℕ) (e : Exp ByteRange) (rest : List ℕ) (before : Writer ByteRange (Unit {0})) (end : ℕ) (after : Writer ByteRange (Unit {0})) → at ≤ start → PartIs text start e rest before end after → PartIs text at e rest before end after
   part_from at start e rest before end after earlier p =
       record {
         stands = record { forward = omega (arith, p.stands.forward); inside = p.stands.inside; behind = p.stands.behind };
@@ -46,12 +46,12 @@ module _ (text : List ℕ) where
       }
 
   -- One range alone.
-  pub part_range : (at : ℕ) (range : ByteRange) (rest : List ℕ) (before : Writer ByteRange) (end : ℕ) (after : Writer ByteRange) → Stands text at rest end → at < end → Wrote before (node.Atom range ∷ []) after → PartIs text at (atom range) rest before end after
+  pub part_range : (at : ℕ) (range : ByteRange) (rest : List ℕ) (before : Writer ByteRange (Unit {0})) (end : ℕ) (after : Writer ByteRange (Unit {0})) → Stands text at rest end → at < end → Wrote before (node.Atom range ∷ []) after → PartIs text at (atom range) rest before end after
   part_range at range rest before end after stands longer wrote =
       record { stands = stands; small = omega arith; wrote = wrote }
 
   -- One node behind the nodes of an expression, for one byte or more.
-  pub part_push : (at : ℕ) (m n : Exp ByteRange) (rest later : List ℕ) (before : Writer ByteRange) (end last : ℕ) (mid after : Writer ByteRange) (x : Node ByteRange) → end < last → last ≤ length text → drop last text ≡ later → code n ≡ code m ++ (x ∷ []) → PartIs text at m rest before end mid → Wrote mid (x ∷ []) after → PartIs text at n later before last after
+  pub part_push : (at : ℕ) (m n : Exp ByteRange) (rest later : List ℕ) (before : Writer ByteRange (Unit {0})) (end last : ℕ) (mid after : Writer ByteRange (Unit {0})) (x : Node ByteRange) → end < last → last ≤ length text → drop last text ≡ later → code n ≡ code m ++ (x ∷ []) → PartIs text at m rest before end mid → Wrote mid (x ∷ []) after → PartIs text at n later before last after
   part_push at m n rest later before end last mid after x longer inside there codes p wrote =
       let counted : length (code n) ≡ length (code m) + 1 = ap length codes ∙ length-append (code m) (x ∷ []) in
       record {
@@ -61,7 +61,7 @@ module _ (text : List ℕ) where
       }
 
   -- Two expressions, one behind the other, and the node that joins them.
-  pub part_joined : (at start : ℕ) (m n mn : Exp ByteRange) (rest later : List ℕ) (before : Writer ByteRange) (end last : ℕ) (mid two after : Writer ByteRange) (x : Node ByteRange) → end < start → code mn ≡ code m ++ (code n ++ (x ∷ [])) → PartIs text at m rest before end mid → PartIs text start n later mid last two → Wrote two (x ∷ []) after → PartIs text at mn later before last after
+  pub part_joined : (at start : ℕ) (m n mn : Exp ByteRange) (rest later : List ℕ) (before : Writer ByteRange (Unit {0})) (end last : ℕ) (mid two after : Writer ByteRange (Unit {0})) (x : Node ByteRange) → end < start → code mn ≡ code m ++ (code n ++ (x ∷ [])) → PartIs text at m rest before end mid → PartIs text start n later mid last two → Wrote two (x ∷ []) after → PartIs text at mn later before last after
   part_joined at start m n mn rest later before end last mid two after x longer codes p q wrote =
       let counted : length (code mn) ≡ length (code m) + (length (code n) + 1) =
       ap length codes ∙ length-append (code m) (code n ++ (x ∷ [])) ∙ ap (λ k. length (code m) + k) (length-append (code n) (x ∷ [])) in
@@ -73,11 +73,11 @@ module _ (text : List ℕ) where
       }
 
 -- Another name for the reading, and an earlier place.
-pub expression_from : (text : List ℕ) (at start : ℕ) (before : Writer ByteRange) (front other : Front (Exp ByteRange)) (r : Option ℕ) (after : Writer ByteRange) → at ≤ start → front ≡ other → ExpressionAt text start other before r after → ExpressionAt text at front before r after
+pub expression_from : (text : List ℕ) (at start : ℕ) (before : Writer ByteRange (Unit {0})) (front other : Front (Exp ByteRange)) (r : Option ℕ) (after : Writer ByteRange (Unit {0})) → at ≤ start → front ≡ other → ExpressionAt text start other before r after → ExpressionAt text at front before r after
 expression_from text at start before front other None after earlier same h = same ∙ h
 expression_from text at start before front other (Some end) after earlier same (e, rest, reads, p) =
     (e, rest, same ∙ reads, part_from text at start e rest before end after earlier p)
 
 -- No expression.
-pub expression_none : (text : List ℕ) (at : ℕ) (before : Writer ByteRange) (front : Front (Exp ByteRange)) (r : Option ℕ) (after : Writer ByteRange) → r ≡ None → front ≡ bad → ExpressionAt text at front before r after
+pub expression_none : (text : List ℕ) (at : ℕ) (before : Writer ByteRange (Unit {0})) (front : Front (Exp ByteRange)) (r : Option ℕ) (after : Writer ByteRange (Unit {0})) → r ≡ None → front ≡ bad → ExpressionAt text at front before r after
 expression_none text at before front r after none h = subst (λ o. ExpressionAt text at front before o after) (sym none) h

@@ -68,13 +68,13 @@ OpenedAt text at (Some opened) =
 
 -- The expression e was read from a place of the text up to an end, with this rest behind it. It has no more nodes than
 -- bytes were read, and they were written.
-pub record PartIs (text : List ℕ) (at : ℕ) (e : Exp ByteRange) (rest : List ℕ) (before : Writer ByteRange) (end : ℕ) (after : Writer ByteRange) : Type 0 where
+pub record PartIs (text : List ℕ) (at : ℕ) (e : Exp ByteRange) (rest : List ℕ) (before : Writer ByteRange (Unit {0})) (end : ℕ) (after : Writer ByteRange (Unit {0})) : Type 0 where
   pub stands : Stands text at rest end
   pub small : at + length (code e) ≤ end
   pub wrote : Wrote before (code e) after
 
 -- What is answered about an expression: none exactly where the reading is bad.
-abbrev pub ExpressionAt : List ℕ → ℕ → Front (Exp ByteRange) → Writer ByteRange → Option ℕ → Writer ByteRange → Type 0
+abbrev pub ExpressionAt : List ℕ → ℕ → Front (Exp ByteRange) → Writer ByteRange (Unit {0}) → Option ℕ → Writer ByteRange (Unit {0}) → Type 0
 ExpressionAt text at front before None after = front ≡ bad
 ExpressionAt text at front before (Some end) after =
     (e : Exp ByteRange) × (rest : List ℕ) × (front ≡ got e rest) × PartIs text at e rest before end after
@@ -94,7 +94,7 @@ pub record LineIs (text : List ℕ) (at : ℕ) (form : Form) (rest : List ℕ) (
   pub small : at + length (code form.shape) ≤ line.end
 
 -- What is answered about a form whose expression's nodes are written.
-abbrev pub WritesAt : List ℕ → ℕ → Writer ByteRange → Option (Read Span) → Writer ByteRange → Type 0
+abbrev pub WritesAt : List ℕ → ℕ → Writer ByteRange (Unit {0}) → Option (Read Span) → Writer ByteRange (Unit {0}) → Type 0
 WritesAt text at before None after = read_line (drop at text) ≡ bad
 WritesAt text at before (Some line) after =
     (form : Form) × (rest : List ℕ) × (read_line (drop at text) ≡ got form rest) × LineIs text at form rest line

@@ -24,7 +24,7 @@ pub struct Lined {
 }
 
 // Where the name of the line at the place stands, and where the line ends, with its expression's nodes written.
-fn line(text: &[u8], at: usize, writer: &mut Writer<'_, ByteRange>) -> Option<Read<Span>>
+fn line(text: &[u8], at: usize, writer: &mut Writer<'_, ByteRange, ()>) -> Option<Read<Span>>
     ensures same_table { writer.new.nodes.ghost_name ≡ writer.old.nodes.ghost_name }
     ensures read { WritesAt text.now at writer.old result writer.new }
 {
@@ -43,7 +43,7 @@ fn line(text: &[u8], at: usize, writer: &mut Writer<'_, ByteRange>) -> Option<Re
 pub fn form_at(text: &[u8], at: usize) -> Option<Lined>
     ensures { FormAt text.now at result }
 {
-    let mut writer = Writer::new(&mut [], 0);
+    let mut writer = Writer::new(&mut [], 0, ());
     let placed = line(text, at, &mut writer)?;
     Some(Lined {
         name: placed.value,
@@ -59,6 +59,6 @@ pub fn write_form(text: &[u8], at: usize, nodes: &mut [Node<ByteRange>], used: u
     ensures { nodes.new ≡ with_form (read_line (drop at text.now)) nodes.old used }
 {
     if form_at(text, at).is_some() {
-        line(text, at, &mut Writer::new(nodes, used));
+        line(text, at, &mut Writer::new(nodes, used, ()));
     }
 }

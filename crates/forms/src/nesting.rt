@@ -1,6 +1,6 @@
 // Expressions in brackets. One recursion reads them, and writes and counts their nodes.
 
-ghost use Rattle.std.specs.Prelude.{◌≡◌, ℕ, ◌≤◌, List, length, drop};
+ghost use Rattle.std.specs.Prelude.{◌≡◌, ℕ, List, drop};
 ghost use Rattle.engine.specs.declared.range.ByteRange.{ByteRange as OfRange};
 ghost use Rattle.forms.specs.Inner.{PartIs, ExpressionAt, joint_of, mark_of, read_more};
 ghost use Rattle.forms.specs.Readers.{read_expression, read_members, read_marked};
@@ -20,7 +20,7 @@ pub fn expression(
     text: &[u8],
     at: usize,
     left: u8,
-    writer: &mut Writer<'_, ByteRange>,
+    writer: &mut Writer<'_, ByteRange, ()>,
 ) -> Option<usize>
     ensures same_table { writer.new.nodes.ghost_name ≡ writer.old.nodes.ghost_name }
     ensures read { ExpressionAt text.now at (read_expression left (drop at text.now)) writer.old result writer.new }
@@ -47,7 +47,7 @@ fn marked(
     at: usize,
     left: u8,
     mark: Mark,
-    writer: &mut Writer<'_, ByteRange>,
+    writer: &mut Writer<'_, ByteRange, ()>,
 ) -> Option<usize>
     ensures same_table { writer.new.nodes.ghost_name ≡ writer.old.nodes.ghost_name }
     ensures read { ExpressionAt text.now at (read_marked (read_expression left) (mark_of mark) (drop at text.now)) writer.old result writer.new }
@@ -65,7 +65,7 @@ fn members(
     at: usize,
     left: u8,
     joint: Joint,
-    writer: &mut Writer<'_, ByteRange>,
+    writer: &mut Writer<'_, ByteRange, ()>,
 ) -> Option<usize>
     ensures same_table { writer.new.nodes.ghost_name ≡ writer.old.nodes.ghost_name }
     ensures read { ExpressionAt text.now at (read_members (read_expression left) (joint_of joint) (drop at text.now)) writer.old result writer.new }
@@ -84,11 +84,10 @@ fn more_members(
     at: usize,
     left: u8,
     joint: Joint,
-    writer: &mut Writer<'_, ByteRange>,
+    writer: &mut Writer<'_, ByteRange, ()>,
 ) -> Option<usize>
-    requires inside { at ≤ length text.now }
     ensures same_table { writer.new.nodes.ghost_name ≡ writer.old.nodes.ghost_name }
-    ensures read { (start : ℕ) (e : Exp OfRange) (rest : List ℕ) (before : OfWriter OfRange) → PartIs text.now start e rest before at writer.old → ExpressionAt text.now start (read_more left (joint_of joint) e rest) before result writer.new }
+    ensures read { (start : ℕ) (e : Exp OfRange) (rest : List ℕ) (before : OfWriter OfRange (Unit {0})) → PartIs text.now start e rest before at writer.old → ExpressionAt text.now start (read_more left (joint_of joint) e rest) before result writer.new }
 {
     let mut here = at;
     while byte_is(text, here, b' ') {

@@ -62,7 +62,7 @@ counts_sum a m n b c k e p q =
         ]
 
 -- Nodes behind nodes.
-pub wrote_append : {A : Type 0} (before mid after : Writer A) (xs ys : List (Node A)) → Wrote before xs mid → Wrote mid ys after → Wrote before (xs ++ ys) after
+pub wrote_append : {A T : Type 0} (before mid after : Writer A T) (xs ys : List (Node A)) → Wrote before xs mid → Wrote mid ys after → Wrote before (xs ++ ys) after
 wrote_append {A} before mid after xs ys p q =
     record {
       written = q.written ∙ ap (λ t. puts t mid.used ys) p.written ∙ by ∙ sym (puts_append before.nodes.now before.used xs ys);

@@ -23,7 +23,7 @@ pub record Counts (before more after : ℕ) : Type 0 where
   pub full : 2 ^ 64 ≤ before + more → after ≡ 2 ^ 64 - 1
 
 -- These nodes were written from the next place on, and counted.
-pub record Wrote {A : Type 0} (before : Writer A) (nodes : List (Node A)) (after : Writer A) : Type 0 where
+pub record Wrote {A T : Type 0} (before : Writer A T) (nodes : List (Node A)) (after : Writer A T) : Type 0 where
   pub written : after.nodes.now ≡ puts before.nodes.now before.used nodes
   pub short : length before.nodes.now < 2 ^ 64
   pub used : Counts before.used (length nodes) after.used

@@ -6,13 +6,14 @@ ghost use Rattle.writing.specs.Wrote.{Counts, Wrote, atoms_in};
 use models::Node;
 use scan::put;
 
-// A lent table, with the place of the next node and how many atoms were written. What has no place in the table is left
-// out, but counted.
+// A lent table, with the place of the next node, how many atoms were written, and what else is told of them. What has no
+// place in the table is left out, but counted.
 #[derive(Drop)]
-pub struct Writer<'n, A> {
+pub struct Writer<'n, A, T> {
     nodes: &'n mut [Node<A>],
     pub used: usize,
     pub atoms: usize,
+    pub told: T,
 }
 
 // So many atoms, and the node if it is one.
@@ -25,18 +26,20 @@ fn counted<A: Copy>(atoms: usize, node: Node<A>) -> usize
     }
 }
 
-impl<'n, A: Copy> Writer<'n, A> {
+impl<'n, A: Copy, T: Copy> Writer<'n, A, T> {
     // A table that is to be written from a place on.
-    pub fn new(nodes: &'n mut [Node<A>], used: usize) -> Writer<'n, A>
+    pub fn new(nodes: &'n mut [Node<A>], used: usize, told: T) -> Writer<'n, A, T>
         ensures same_table { result.nodes.ghost_name ≡ nodes.entry.ghost_name }
         ensures nodes { result.nodes.now ≡ nodes.old }
         ensures used { result.used ≡ used }
         ensures atoms { result.atoms ≡ 0 }
+        ensures told { result.told ≡ told }
     {
         Writer {
             nodes,
             used,
             atoms: 0,
+            told,
         }
     }
 
@@ -44,6 +47,7 @@ impl<'n, A: Copy> Writer<'n, A> {
     pub fn put(&mut self, node: Node<A>)
         ensures same_table { self.new.nodes.ghost_name ≡ self.old.nodes.ghost_name }
         ensures wrote { Wrote self.old (node ∷ []) self.new }
+        ensures told { self.new.told ≡ self.old.told }
     {
         put(self.nodes, self.used, node);
         self.used = self.used.saturating_add(1);

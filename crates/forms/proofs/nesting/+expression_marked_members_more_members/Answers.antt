@@ -98,7 +98,6 @@ members-returns-clause-read t c =
 pub more_members-loop-joint-init : goal.more_members-loop-joint-init
 more_members-loop-joint-init t c = (
   λ start e rest before p. going_start c.args.text.now start c.args.left c.args.joint e rest before c.args.at c.args.writer.now p,
-  c.requires.inside,
   refl,
 )
 
@@ -114,8 +113,7 @@ more_members-loop-joint-preserved t c =
     let text = c.args.text.now in
     let wrote = subst (λ x. Wrote c.expression.new.writer (x ∷ []) c.put.new.self) c.from.ensures c.put.ensures.wrote in (
       λ start e rest before p. list_member text start c.args.left c.args.joint (read_more c.args.left (joint_of c.args.joint) e rest) before c.loop-joint.here c.loop-joint.writer (c.loop-joint.invariant.0 start e rest before p) (sym c.byte_is.ensures ∙ c.loop-joint-test.true) c.in_ok-here.here c.expression.new.writer c.put.new.self c.in_ok-here.ensures.read wrote,
-      c.in_ok-here.ensures.read.3.stands.inside,
-      c.put.ensures.same_table ∙ c.in_ok-here.ensures.same_table ∙ c.loop-joint.invariant.2,
+      c.put.ensures.same_table ∙ c.in_ok-here.ensures.same_table ∙ c.loop-joint.invariant.1,
     )
 
 pub more_members-returns-then-byte_is-clause-read : goal.more_members-returns-then-byte_is-clause-read

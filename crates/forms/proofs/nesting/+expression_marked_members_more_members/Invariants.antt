@@ -1,4 +1,4 @@
-use Rattle.std.proofs.Common.{◌≡◌, ℕ, ◌+◌, ◌-◌, ◌*◌, ◌≤◌, List, length}
+use Rattle.std.proofs.Common.{◌≡◌, ℕ, ◌+◌, ◌-◌, ◌*◌, List, length}
 use Rattle.engine.specs.declared.range.ByteRange.{ByteRange}
 use Rattle.models.specs.Expressions.{Exp}
 use Rattle.writing.specs.declared.writer.Writer.{Writer}
@@ -21,8 +21,7 @@ decreases-more_members l = 3 * l.left + 1
 -- Whatever the first two members were read as, the list goes on.
 abbrev pub invariant-more_members-loop-joint : goal.invariant-more_members-loop-joint
 invariant-more_members-loop-joint l =
-    ((start : ℕ) (e : Exp ByteRange) (rest : List ℕ) (before : Writer ByteRange) → PartIs l.text start e rest before l.initial.here l.initial.writer → Going l.text start l.left l.joint (read_more l.left (joint_of l.joint) e rest) before l.here l.writer)
-    × (l.here ≤ length l.text)
+    ((start : ℕ) (e : Exp ByteRange) (rest : List ℕ) (before : Writer ByteRange (Unit {0})) → PartIs l.text start e rest before l.initial.here l.initial.writer → Going l.text start l.left l.joint (read_more l.left (joint_of l.joint) e rest) before l.here l.writer)
     × (l.writer.nodes.ghost_name ≡ l.initial.writer.nodes.ghost_name)
 
 abbrev pub decreases-more_members-loop-joint : goal.decreases-more_members-loop-joint
