@@ -1,59 +1,36 @@
 -- The members of a group, turn by turn.
-use Rattle.std.proofs.Common.{◌≡◌, ℕ, zero, suc, ◌+◌, ◌-◌, ◌<◌, ◌≤◌, Bool, true, false, ◌&&◌, eqb, List, [], ◌∷◌, ◌++◌, length, drop, set, Some, sym, refl, ap, ◌∙◌, arith, length-drop}
+use Rattle.std.proofs.Common.{◌≡◌, ℕ, zero, suc, ◌+◌, ◌-◌, ◌<◌, ◌≤◌, Bool, true, false, eqb, List, [], ◌∷◌, ◌++◌, length, drop, Some, sym, refl, ap, ◌∙◌, arith, length-drop}
 use Rattle.models.specs.Expressions.{Exp}
 use Rattle.scan.specs.Bytes.{first_is, skip}
 use Rattle.scan.specs.Names.{Name}
-use Rattle.scan.proofs.Runs.{turns_over, turns_stuck, turns_next}
-use Rattle.scan.specs.Readings.{Front, bad, Turn, over, stuck, next, Run, finished, stopped, turns, run}
-use Rattle.declarations.specs.Answers.{Nodes}
-use Rattle.declarations.specs.Inner.{PartIs, ExpressionAt, joint_of, joint_node}
+use Rattle.scan.specs.Readings.{Front, bad, Turn, stuck, Run, run}
+use Rattle.scan.proofs.Turning.{Turning, turning_over, turning_stuck, turning_next, turning_start}
+use Rattle.writing.specs.Signs.{joint_node}
+use Rattle.writing.specs.declared.signs.Joint as joint
+use Rattle.declarations.specs.Inner.{PartIs, ExpressionAt, joint_of}
 use Rattle.declarations.specs.Grammar.{by_comma, by_bar, sign, join}
 use Rattle.declarations.specs.Models.{names_in, numbered}
 use Rattle.declarations.specs.Readers.{read_cp, member, behind, shut, joint_at, members_of, in_brackets, read_group}
-use Rattle.declarations.specs.declared.part.Part.{Part}
-use Rattle.declarations.proofs.Parts.{part_wider, part_from, part_same, part_joined, join_code, join_atoms, join_names}
+use Rattle.declarations.specs.Writers.{ModelWriter}
+use Rattle.declarations.proofs.Parts.{Put, part_wider, part_from, part_same, part_joined, join_code, join_names}
 use Rattle.declarations.proofs.Stages.{comes, flip, behind_drop, brackets_yes, brackets_no, member_over, member_stuck, member_bad, member_next}
 
--- A run that still has more turns than bytes are left: its next turn ends it, or goes on.
-pub record Turning {S : Type 0} (turn : S → List ℕ → Turn S) (s : S) (t : List ℕ) (all : Run S) : Type 0 where
-  pub spare : ℕ
-  pub enough : length t ≤ spare
-  pub same : turns (suc spare) turn s t ≡ all
-
-module _ {S : Type 0} (turn : S → List ℕ → Turn S) (all : Run S) where
-  pub turning_over : (s : S) (t : List ℕ) → Turning turn s t all → turn s t ≡ over → all ≡ finished s t
-  turning_over s t g e = sym g.same ∙ turns_over turn g.spare s t e
-
-  pub turning_stuck : (s : S) (t : List ℕ) → Turning turn s t all → turn s t ≡ stuck → all ≡ stopped s t
-  turning_stuck s t g e = sym g.same ∙ turns_stuck turn g.spare s t e
-
-  pub turning_next : (s s' : S) (t t' : List ℕ) → Turning turn s t all → turn s t ≡ next s' t' → length t' < length t → Turning turn s' t' all
-  turning_next s s' t t' g e less =
-      let more : suc (g.spare - 1) ≡ g.spare = omega (arith, g.enough) in
-      record { spare = g.spare - 1; enough = omega (arith, g.enough); same = ap (λ n. turns n turn s' t') more ∙ sym (turns_next turn g.spare s s' t t' e) ∙ g.same }
-
-pub turning_start : {S : Type 0} (turn : S → List ℕ → Turn S) (s : S) (t : List ℕ) → Turning turn s t (run turn s t)
-turning_start turn s t = record { spare = length t; enough = omega arith; same = refl }
-
 -- Inside a group: the members so far make the expression e, and the turns that are left give the whole group.
-pub record Going (text : List ℕ) (names : List Name) (at : ℕ) (group : List ℕ → Front (Exp Name)) (bar : Bool) (whole : Front (Exp Name)) (table : Nodes) (used : ℕ) (part : Part) (after : Nodes) : Type 0 where
+pub record Going (text : List ℕ) (names : List Name) (at : ℕ) (group : List ℕ → Front (Exp Name)) (j : joint.Joint) (whole : Front (Exp Name)) (before : ModelWriter) (end : ℕ) (after : ModelWriter) : Type 0 where
   pub all : Run (Exp Name)
   pub so_far : Exp Name
   pub left : List ℕ
-  pub turning : Turning (member group (joint_of bar)) so_far left all
+  pub turning : Turning (member group (joint_of j)) so_far left all
   pub gives : shut all ≡ whole
-  pub is : PartIs text names at (numbered names so_far) (names_in so_far) left table used part after
+  pub is : PartIs text names at (numbered names so_far) (names_in so_far) left before end after
 
-joint_is : (bar : Bool) (t : List ℕ) → bar ≡ comes 124 (skip t) → joint_at t ≡ joint_of bar
-joint_is bar t h = ap (λ b. elim b [ true ↦ by_bar | false ↦ by_comma ]) (turned (skip t) ∙ sym h) ∙ by bar
-  where
-    turned : (u : List ℕ) → first_is (λ b. eqb b 124) u ≡ comes 124 u
-    turned [] = refl
-    turned (b ∷ u) = flip b 124
+turned : (u : List ℕ) → first_is (λ b. eqb b 124) u ≡ comes 124 u
+turned [] = refl
+turned (b ∷ u) = flip b 124
 
-    by : (b : Bool) → elim b [ true ↦ by_bar | false ↦ by_comma ] ≡ joint_of b
-    by true = refl
-    by false = refl
+-- The joint is told by the sign behind the first member.
+pub joint_is : (t : List ℕ) (bar : Bool) → comes 124 (skip t) ≡ bar → joint_at t ≡ elim bar [ true ↦ by_bar | false ↦ by_comma ]
+joint_is t bar h = ap (λ b. elim b [ true ↦ by_bar | false ↦ by_comma ]) (turned (skip t) ∙ h)
 
 pub suc_of : (left : ℕ) (t : List ℕ) → 0 < left → read_group left t ≡ in_brackets (read_group (left - 1)) t
 unfolding read_group
@@ -64,7 +41,7 @@ pub group_zero : (text : List ℕ) (at left : ℕ) → left ≡ 0 → read_group
 unfolding read_group
 group_zero text at left none = ap (λ n. read_group n (drop at text)) none
 
-module _ (text : List ℕ) (names : List Name) (at left : ℕ) (table : Nodes) (used : ℕ) where
+module _ (text : List ℕ) (names : List Name) (at left : ℕ) (before : ModelWriter) where
   -- No bracket, no group.
   pub group_none : comes 40 (drop at text) ≡ false → read_group left (drop at text) ≡ bad
   unfolding read_group
@@ -86,26 +63,25 @@ module _ (text : List ℕ) (names : List Name) (at left : ℕ) (table : Nodes) (
   group_bad start some h inside there b =
       inner start some h inside there ∙ ap (members_of (read_group (left - 1))) b
 
-  pub group_first : (start : ℕ) (bar : Bool) (here : ℕ) (part : Part) (after : Nodes) → 0 < left → comes 40 (drop at text) ≡ true → at < length text → drop start text ≡ skip (drop (at + 1) text) → at + 1 ≤ start → drop here text ≡ skip (drop part.end text) → bar ≡ comes 124 (drop here text) → ExpressionAt text names start (read_cp (read_group (left - 1)) (drop start text)) table used (Some part) after → Going text names at (read_group (left - 1)) bar (read_group left (drop at text)) table used part after
+  pub group_first : (start : ℕ) (j : joint.Joint) (end : ℕ) (after : ModelWriter) → 0 < left → comes 40 (drop at text) ≡ true → at < length text → drop start text ≡ skip (drop (at + 1) text) → at + 1 ≤ start → joint_of j ≡ joint_at (drop end text) → ExpressionAt text names start (read_cp (read_group (left - 1)) (drop start text)) before (Some end) after → Going text names at (read_group (left - 1)) j (read_group left (drop at text)) before end after
   unfolding members_of
-  group_first start bar here part after some h inside there before skipped sign-is (e, rest, reads, p) =
-      let turn = member (read_group (left - 1)) (joint_of bar) in
-      let joint : joint_at rest ≡ joint_of bar =
-      joint_is bar rest (sign-is ∙ ap (comes 124) (skipped ∙ ap skip p.stands.behind)) in
+  group_first start j end after some h inside there earlier joint-is (e, rest, reads, p) =
+      let turn = member (read_group (left - 1)) (joint_of j) in
+      let joint : joint_at rest ≡ joint_of j = ap joint_at (sym p.stands.behind) ∙ sym joint-is in
       let ran : read_group left (drop at text) ≡ shut (run turn e rest) =
-      inner start some h inside there ∙ ap (members_of (read_group (left - 1))) reads ∙ ap (λ j. shut (run (member (read_group (left - 1)) j) e rest)) joint in
+      inner start some h inside there ∙ ap (members_of (read_group (left - 1))) reads ∙ ap (λ i. shut (run (member (read_group (left - 1)) i) e rest)) joint in
       record {
         all = run turn e rest;
         so_far = e;
         left = rest;
         turning = turning_start turn e rest;
         gives = sym ran;
-        is = part_from text names at start (numbered names e) (names_in e) rest table used part after (omega arith) p;
+        is = part_from text names at start (numbered names e) (names_in e) rest before end after (omega arith) p;
       }
 
-module _ (text : List ℕ) (names : List Name) (at : ℕ) (group : List ℕ → Front (Exp Name)) (bar : Bool) (whole : Front (Exp Name)) (table : Nodes) (used : ℕ) (part : Part) (after : Nodes) (g : Going text names at group bar whole table used part after) (here : ℕ) (skipped : drop here text ≡ skip (drop part.end text)) where
+module _ (text : List ℕ) (names : List Name) (at : ℕ) (group : List ℕ → Front (Exp Name)) (j : joint.Joint) (whole : Front (Exp Name)) (before : ModelWriter) (end : ℕ) (after : ModelWriter) (g : Going text names at group j whole before end after) (here : ℕ) (skipped : drop here text ≡ skip (drop end text)) where
   abbrev turn : Exp Name → List ℕ → Turn (Exp Name)
-  turn = member group (joint_of bar)
+  turn = member group (joint_of j)
 
   next_byte : drop here text ≡ skip g.left
   next_byte = skipped ∙ ap skip g.is.stands.behind
@@ -114,42 +90,42 @@ module _ (text : List ℕ) (names : List Name) (at : ℕ) (group : List ℕ → 
   unfolding shut
   stops e = sym g.gives ∙ ap shut (turning_stuck turn g.all g.so_far g.left g.turning e)
 
-  pub group_over : part.end ≤ here → here < length text → comes 41 (drop here text) ≡ true → ExpressionAt text names at whole table used (Some (record { end = here + 1; atoms = part.atoms; nodes = part.nodes; known = part.known })) after
+  pub group_over : end ≤ here → here < length text → comes 41 (drop here text) ≡ true → ExpressionAt text names at whole before (Some (here + 1)) after
   unfolding shut
-  group_over before inside h =
-      let done = turning_over turn g.all g.so_far g.left g.turning (member_over group (joint_of bar) g.so_far g.left (ap (comes 41) (sym next_byte) ∙ h)) in
+  group_over forward inside h =
+      let done = turning_over turn g.all g.so_far g.left g.turning (member_over group (joint_of j) g.so_far g.left (ap (comes 41) (sym next_byte) ∙ h)) in
       let there : drop (here + 1) text ≡ behind (skip g.left) = sym (behind_drop text here inside) ∙ ap behind next_byte in (
         g.so_far,
         behind (skip g.left),
         sym g.gives ∙ ap shut done,
-        part_wider text names at at (numbered names g.so_far) (names_in g.so_far) g.left (behind (skip g.left)) table used part (here + 1) after (omega arith) (omega arith) (omega arith) there g.is,
+        part_wider text names at at (numbered names g.so_far) (names_in g.so_far) g.left (behind (skip g.left)) before end (here + 1) after (omega arith) (omega arith) (omega arith) there g.is,
       )
 
-  pub group_stuck : comes 41 (drop here text) ≡ false → comes (sign (joint_of bar)) (drop here text) ≡ false → whole ≡ bad
+  pub group_stuck : comes 41 (drop here text) ≡ false → comes (sign (joint_of j)) (drop here text) ≡ false → whole ≡ bad
   group_stuck h k =
-      stops (member_stuck group (joint_of bar) g.so_far g.left (ap (comes 41) (sym next_byte) ∙ h) (ap (comes (sign (joint_of bar))) (sym next_byte) ∙ k))
+      stops (member_stuck group (joint_of j) g.so_far g.left (ap (comes 41) (sym next_byte) ∙ h) (ap (comes (sign (joint_of j))) (sym next_byte) ∙ k))
 
-  module _ (start : ℕ) (inside : here < length text) (over-not : comes 41 (drop here text) ≡ false) (signed : comes (sign (joint_of bar)) (drop here text) ≡ true) (there : drop start text ≡ skip (drop (here + 1) text)) where
+  module _ (start : ℕ) (inside : here < length text) (over-not : comes 41 (drop here text) ≡ false) (signed : comes (sign (joint_of j)) (drop here text) ≡ true) (there : drop start text ≡ skip (drop (here + 1) text)) where
     behind_sign : skip (behind (skip g.left)) ≡ drop start text
     behind_sign = ap (λ t. skip (behind t)) (sym next_byte) ∙ ap skip (behind_drop text here inside) ∙ sym there
 
     pub group_no_member : read_cp group (drop start text) ≡ bad → whole ≡ bad
     group_no_member b =
-        stops (member_bad group (joint_of bar) g.so_far g.left (ap (comes 41) (sym next_byte) ∙ over-not) (ap (comes (sign (joint_of bar))) (sym next_byte) ∙ signed) (ap (read_cp group) behind_sign ∙ b))
+        stops (member_bad group (joint_of j) g.so_far g.left (ap (comes 41) (sym next_byte) ∙ over-not) (ap (comes (sign (joint_of j))) (sym next_byte) ∙ signed) (ap (read_cp group) behind_sign ∙ b))
 
-    pub group_member : (more : Part) (last : Nodes) → part.end ≤ here → here + 1 ≤ start → ExpressionAt text names start (read_cp group (drop start text)) after (used + part.nodes) (Some more) last → (made : Part) (final : Nodes) → made ≡ record { end = more.end; atoms = part.atoms + more.atoms; nodes = part.nodes + more.nodes + 1; known = part.known && more.known } → final ≡ set last (used + part.nodes + more.nodes) (joint_node bar) → Going text names at group bar whole table used made final
-    group_member more last before after-sign (f, rest, reads, q) made final made-is put =
+    pub group_member : (last : ℕ) (two made : ModelWriter) → end ≤ here → here + 1 ≤ start → ExpressionAt text names start (read_cp group (drop start text)) after (Some last) two → Put two (joint_node j) made → Going text names at group j whole before last made
+    group_member last two made forward after-sign (f, rest, reads, q) put =
         let e = g.so_far in
-        let stepped = member_next group (joint_of bar) e f g.left rest (ap (comes 41) (sym next_byte) ∙ over-not) (ap (comes (sign (joint_of bar))) (sym next_byte) ∙ signed) (ap (read_cp group) behind_sign ∙ reads) in
-        let old : length g.left ≡ length text - part.end = ap length (sym g.is.stands.behind) ∙ length-drop part.end text in
-        let new : length rest ≡ length text - more.end = ap length (sym q.stands.behind) ∙ length-drop more.end text in
+        let stepped = member_next group (joint_of j) e f g.left rest (ap (comes 41) (sym next_byte) ∙ over-not) (ap (comes (sign (joint_of j))) (sym next_byte) ∙ signed) (ap (read_cp group) behind_sign ∙ reads) in
+        let old : length g.left ≡ length text - end = ap length (sym g.is.stands.behind) ∙ length-drop end text in
+        let new : length rest ≡ length text - last = ap length (sym q.stands.behind) ∙ length-drop last text in
         let less : length rest < length g.left = omega (arith, q.stands.forward, q.stands.inside) in
-        let joined = part_joined text names at start (numbered names e) (numbered names f) (numbered names (join (joint_of bar) e f)) (names_in e) (names_in f) g.left rest table used part more after last (joint_node bar) (omega arith) (join_code bar names e f) (join_atoms bar names e f) g.is q in
+        let joined = part_joined text names at start (numbered names e) (numbered names f) (numbered names (join (joint_of j) e f)) (names_in e) (names_in f) g.left rest before end last after two made (joint_node j) (omega arith) (join_code j names e f) g.is q put in
         record {
           all = g.all;
-          so_far = join (joint_of bar) e f;
+          so_far = join (joint_of j) e f;
           left = rest;
-          turning = turning_next turn g.all e (join (joint_of bar) e f) g.left rest g.turning stepped less;
+          turning = turning_next turn g.all e (join (joint_of j) e f) g.left rest g.turning stepped less;
           gives = g.gives;
-          is = part_same text names at (numbered names (join (joint_of bar) e f)) (names_in e ++ names_in f) (names_in (join (joint_of bar) e f)) rest table used (record { end = more.end; atoms = part.atoms + more.atoms; nodes = part.nodes + more.nodes + 1; known = part.known && more.known }) made (set last (used + part.nodes + more.nodes) (joint_node bar)) final (join_names bar e f) made-is put joined;
+          is = part_same text names at (numbered names (join (joint_of j) e f)) (names_in e ++ names_in f) (names_in (join (joint_of j) e f)) rest before last made (join_names j e f) joined;
         }

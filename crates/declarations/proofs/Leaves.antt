@@ -1,25 +1,16 @@
 -- Names and particles at the front of a text.
-use Rattle.std.proofs.Common.{◌≡◌, ℕ, zero, suc, ◌+◌, ◌-◌, ◌<◌, ◌≤◌, Bool, true, false, cond, ◌&&◌, ◌||◌, eqb, leb, List, [], ◌∷◌, length, take, drop, Some, None, Option, sym, refl, ap, ◌∙◌, subst, arith, length-drop}
+use Rattle.std.proofs.Common.{◌≡◌, ℕ, zero, suc, ◌-◌, ◌<◌, Bool, true, false, ◌&&◌, eqb, leb, List, [], ◌∷◌, length, take, drop, Some, Option, sym, refl, ap, ◌∙◌, subst, arith, length-drop}
 use Rattle.std.specs.List.{prefix_len}
-use Rattle.std.proofs.lemmas.Bool.{eqb-true, or_left, false≢true}
+use Rattle.std.proofs.lemmas.Bool.{eqb-true, false≢true}
 use Rattle.models.specs.Expressions.{Exp, atom}
-use Rattle.scan.specs.Bytes.{is_initial, is_name_byte, first_is, within}
+use Rattle.scan.specs.Bytes.{is_initial, is_name_byte, first_is}
 use Rattle.scan.specs.Names.{Name, read_name}
 use Rattle.scan.specs.Readings.{Front, bad, got, Stands, EndOf}
-use Rattle.declarations.specs.Answers.{Nodes}
 use Rattle.declarations.specs.Inner.{ExpressionAt, read_unit}
 use Rattle.declarations.specs.Readers.{named, marked, with_mark, read_group}
-use Rattle.declarations.specs.declared.part.Part.{Part}
+use Rattle.declarations.specs.Writers.{ModelWriter}
+use Rattle.scan.proofs.Agreements.{name_shortens}
 use Rattle.declarations.proofs.Stages.{comes, brackets_no}
-
--- What an answer about an end says of the reading.
-pub end_got : {A : Type 0} (text : List ℕ) (at : ℕ) (front : Front A) (end : ℕ) → EndOf text at front (Some end) → (v : A) × (rest : List ℕ) × (front ≡ got v rest) × Stands text at rest end
-end_got text at bad end h = absurd h
-end_got text at (got v rest) end h = (v, rest, refl, h)
-
-pub end_bad : {A : Type 0} (text : List ℕ) (at : ℕ) (front : Front A) → EndOf text at front None → front ≡ bad
-end_bad text at bad h = refl
-end_bad text at (got v rest) h = absurd h
 
 pub end_at : {A : Type 0} (text : List ℕ) (at : ℕ) (front : Front A) (v : A) (rest : List ℕ) (end : ℕ) → front ≡ got v rest → EndOf text at front (Some end) → Stands text at rest end
 end_at text at front v rest end e h = subst (λ f. EndOf text at f (Some end)) e h
@@ -34,24 +25,9 @@ pub name_first : (t name rest : List ℕ) → read_name t ≡ got name rest → 
 name_first t name rest e =
     (chosen (first_is is_initial t) (leb (prefix_len is_name_byte t) 32) (take (prefix_len is_name_byte t) t) name (drop (prefix_len is_name_byte t) t) rest e).0
 
-some_leading : (t : List ℕ) → first_is is_initial t ≡ true → (1 ≤ prefix_len is_name_byte t) × (1 ≤ length t)
-some_leading [] e = absurd (false≢true e)
-some_leading (b ∷ t) e =
-    let one : is_name_byte b ≡ true = or_left (is_initial b) (within 48 57 b || (eqb b 46 || eqb b 45)) e in
-    let more : prefix_len is_name_byte (b ∷ t) ≡ 1 + prefix_len is_name_byte t = ap (λ x. cond x (1 + prefix_len is_name_byte t) 0) one in
-    (omega arith, omega arith)
-
-pub name_shrinks : (t name rest : List ℕ) → read_name t ≡ got name rest → length rest < length t
-name_shrinks t name rest e =
-    let l = prefix_len is_name_byte t in
-    let s = some_leading t (name_first t name rest e) in
-    let same = (chosen (first_is is_initial t) (leb l 32) (take l t) name (drop l t) rest e).1 in
-    let long : length rest ≡ length t - l = ap length (sym same) ∙ length-drop l t in
-    omega arith
-
 pub name_longer : (text : List ℕ) (at : ℕ) (name rest : List ℕ) (end : ℕ) → read_name (drop at text) ≡ got name rest → Stands text at rest end → at < end
 name_longer text at name rest end e s =
-    let h = name_shrinks (drop at text) name rest e in
+    let h = name_shortens (drop at text) name rest e in
     let a = length-drop at text in
     let b : length rest ≡ length text - end = ap length (sym s.behind) ∙ length-drop end text in
     omega (arith, s.forward, s.inside)
@@ -82,13 +58,13 @@ unit_other left t e = by (first_is is_initial t) refl
     by true h = ap named e ∙ sym (no_group left t (no_bracket t h))
     by false h = refl
 
-module _ (text : List ℕ) (names : List Name) (at : ℕ) (table : Nodes) (used : ℕ) where
-  pub expression_same : (front other : Front (Exp Name)) (r : Option Part) (after : Nodes) → front ≡ other → ExpressionAt text names at other table used r after → ExpressionAt text names at front table used r after
-  expression_same front other r after e h = subst (λ f. ExpressionAt text names at f table used r after) (sym e) h
+module _ (text : List ℕ) (names : List Name) (at : ℕ) (before : ModelWriter) where
+  pub expression_same : (front other : Front (Exp Name)) (r : Option ℕ) (after : ModelWriter) → front ≡ other → ExpressionAt text names at other before r after → ExpressionAt text names at front before r after
+  expression_same front other r after e h = subst (λ f. ExpressionAt text names at f before r after) (sym e) h
 
-  pub particle_got : (front : Front (Exp Name)) (e : Exp Name) (rest : List ℕ) (part : Part) (after : Nodes) → front ≡ got e rest → ExpressionAt text names at (with_mark e rest) table used (Some part) after → ExpressionAt text names at (marked front) table used (Some part) after
+  pub particle_got : (front : Front (Exp Name)) (e : Exp Name) (rest : List ℕ) (end : ℕ) (after : ModelWriter) → front ≡ got e rest → ExpressionAt text names at (with_mark e rest) before (Some end) after → ExpressionAt text names at (marked front) before (Some end) after
   unfolding marked
-  particle_got front e rest part after reads h = expression_same (marked front) (with_mark e rest) (Some part) after (ap marked reads) h
+  particle_got front e rest end after reads h = expression_same (marked front) (with_mark e rest) (Some end) after (ap marked reads) h
 
 pub particle_bad : (front : Front (Exp Name)) → front ≡ bad → marked front ≡ bad
 unfolding marked

@@ -17,4 +17,4 @@ pub mod Pieces
 pub mod Repeated
 pub mod Stages
 pub mod Wholes
-pub mod Writing
+pub mod Listing

@@ -1,85 +1,79 @@
 -- The content of a declaration.
-use Rattle.std.proofs.Common.{◌≡◌, ℕ, suc, ◌+◌, ◌-◌, ◌<◌, Bool, true, false, eqb, List, [], ◌∷◌, length, drop, set, Some, None, codes, Option, sym, refl, ap, ◌∙◌, subst, arith, length-drop}
+use Rattle.std.proofs.Common.{◌≡◌, ℕ, ◌+◌, ◌<◌, Bool, true, false, ◌&&◌, List, [], ◌∷◌, length, drop, Some, None, codes, Option, sym, refl, ap, ◌∙◌, subst, arith}
 use Rattle.std.proofs.lemmas.Bool.{false≢true}
 use Rattle.engine.specs.declared.alphabet.ContentAtom.TheVariants.{All}
 use Rattle.models.specs.declared.node.Node.TheVariants as node
 use Rattle.scan.specs.Bytes.{skip}
-use Rattle.scan.specs.Lists.{puts}
 use Rattle.scan.specs.Names.{Name}
-use Rattle.scan.specs.Readings.{Front, bad, got, word, run, Stands, EndOf}
-use Rattle.declarations.specs.Answers.{Nodes}
-use Rattle.declarations.specs.Inner.{BodyIs, ContentAt, ExpressionAt}
+use Rattle.scan.specs.Readings.{Front, bad, word, run, EndOf}
+use Rattle.scan.specs.declared.read.Read.{Read}
+use Rattle.scan.proofs.Ends.{worded, end_bad}
+use Rattle.writing.specs.Wrote.{Wrote}
+use Rattle.writing.proofs.Writing.{wrote_append}
+use Rattle.declarations.specs.Inner.{ContentAt, ExpressionAt}
 use Rattle.declarations.specs.Contents.{Content, nothing, anything, children}
 use Rattle.declarations.specs.Grammar.{deepest}
 use Rattle.declarations.specs.Readers.{marked, behind, read_group, as_children, mixed_name, shut, starred, mixed_or, bracketed, or_else, read_content}
-use Rattle.declarations.specs.declared.part.Body.{Body}
-use Rattle.declarations.specs.declared.part.Part.{Part}
-use Rattle.declarations.proofs.Leaves.{end_got, end_bad}
+use Rattle.declarations.specs.Writers.{ModelWriter}
+use Rattle.declarations.proofs.Parts.{Put}
 use Rattle.declarations.proofs.Stages.{comes, flip, behind_drop}
-use Rattle.declarations.proofs.Writing.{puts_one}
 
-by_byte : (x : Bool) (w : List ℕ) (t rest : List ℕ) (v : Unit {0}) → (word w t ≡ got v rest → length t ≡ length w + length rest) → elim x [ true ↦ word w t | false ↦ bad ] ≡ got v rest → suc (length t) ≡ suc (length w) + length rest
-by_byte true w t rest v on e = let h = on e in omega arith
-by_byte false w t rest v on e = absurd (let wrong : ◌≡◌ {A = ℕ} 0 1 = cc in omega arith)
+pub true_stays : (b : Bool) → b ≡ (b && true)
+true_stays true = refl
+true_stays false = refl
 
--- A word takes its bytes.
-pub word_length : (w t : List ℕ) (v : Unit {0}) (rest : List ℕ) → word w t ≡ got v rest → length t ≡ length w + length rest
-unfolding word
-word_length [] t v rest e = let same : t ≡ rest = cc in let h = ap length same in omega arith
-word_length (k ∷ w) [] v rest e = absurd (let wrong : ◌≡◌ {A = ℕ} 0 1 = cc in omega arith)
-word_length (k ∷ w) (b ∷ t) v rest e = by_byte (eqb k b) w t rest v (word_length w t v rest) e
+module _ (text : List ℕ) (names : List Name) (at : ℕ) (before : ModelWriter) where
+  pub content_same : (front other : Front Content) (r : Option (Read Bool)) (after : ModelWriter) → front ≡ other → ContentAt text names at other before r after → ContentAt text names at front before r after
+  content_same front other r after e h = subst (λ f. ContentAt text names at f before r after) (sym e) h
 
--- What is told of a word, with its length.
-pub worded : (w text : List ℕ) (at end : ℕ) → EndOf text at (word w (drop at text)) (Some end) → (rest : List ℕ) × (word w (drop at text) ≡ got tt rest) × Stands text at rest end × (at + length w ≡ end)
-worded w text at end h =
-    let (v, rest, reads, stands) = end_got text at (word w (drop at text)) end h in
-    let long = word_length w (drop at text) v rest reads in
-    let a = length-drop at text in
-    let b : length rest ≡ length text - end = ap length (sym stands.behind) ∙ length-drop end text in
-    (rest, reads, stands, omega (arith, stands.forward, stands.inside))
-
-module _ (text : List ℕ) (names : List Name) (at : ℕ) (table : Nodes) (used : ℕ) where
-  pub content_same : (front other : Front Content) (r : Option Body) (after : Nodes) → front ≡ other → ContentAt text names at other table used r after → ContentAt text names at front table used r after
-  content_same front other r after e h = subst (λ f. ContentAt text names at f table used r after) (sym e) h
-
-  pub content_empty : (end : ℕ) (body : Body) (after : Nodes) → EndOf text at (word (codes "EMPTY") (drop at text)) (Some end) → body ≡ record { part = record { end = end; atoms = 0; nodes = 1; known = true }; distinct = true } → after ≡ set table used node.Empty → ContentAt text names at (read_content (drop at text)) table used (Some body) after
+  pub content_empty : (end : ℕ) (after : ModelWriter) → EndOf text at (word (codes "EMPTY") (drop at text)) (Some end) → Put before node.Empty after → ContentAt text names at (read_content (drop at text)) before (Some (record { value = true; end = end })) after
   unfolding or_else
-  content_empty end body after h body_is put =
-      let w = worded (codes "EMPTY") text at end h in
-      let told : BodyIs text names at nothing w.0 table used (record { part = record { end = end; atoms = 0; nodes = 1; known = true }; distinct = true }) after =
-      record {
-        part = record { stands = w.2; atom_count = refl; node_count = refl; small = omega (arith, w.3); all_known = refl; written = put ∙ sym (puts_one table used node.Empty) };
-        differ = λ known. refl;
-      } in
-      (nothing, w.0, ap (or_else nothing (or_else anything (bracketed (drop at text) (drop at text)) (word (codes "ANY") (drop at text)))) w.1, subst (λ b. BodyIs text names at nothing w.0 table used b after) (sym body_is) told)
+  content_empty end after h (wrote, known) =
+      let w = worded (codes "EMPTY") text at end h in (
+        nothing,
+        drop end text,
+        ap (or_else nothing (or_else anything (bracketed (drop at text) (drop at text)) (word (codes "ANY") (drop at text)))) w.reads,
+        record {
+          part = record { stands = record { forward = omega (arith, w.place); inside = w.inside; behind = refl }; small = omega (arith, w.place); all_known = known ∙ true_stays before.told; wrote = wrote };
+          differ = λ _. refl;
+        },
+      )
 
-  pub content_else : (r : Option Body) (after : Nodes) → EndOf text at (word (codes "EMPTY") (drop at text)) None → ContentAt text names at (or_else anything (bracketed (drop at text) (drop at text)) (word (codes "ANY") (drop at text))) table used r after → ContentAt text names at (read_content (drop at text)) table used r after
+  pub content_else : (r : Option (Read Bool)) (after : ModelWriter) → EndOf text at (word (codes "EMPTY") (drop at text)) None → ContentAt text names at (or_else anything (bracketed (drop at text) (drop at text)) (word (codes "ANY") (drop at text))) before r after → ContentAt text names at (read_content (drop at text)) before r after
   unfolding or_else
   content_else r after not-empty h =
       content_same (read_content (drop at text)) (or_else anything (bracketed (drop at text) (drop at text)) (word (codes "ANY") (drop at text))) r after
       (ap (or_else nothing (or_else anything (bracketed (drop at text) (drop at text)) (word (codes "ANY") (drop at text)))) (end_bad text at (word (codes "EMPTY") (drop at text)) not-empty)) h
 
-  pub content_any : (end : ℕ) (body : Body) (after : Nodes) (count : ℕ) → EndOf text at (word (codes "ANY") (drop at text)) (Some end) → body ≡ record { part = record { end = end; atoms = 1; nodes = 2; known = true }; distinct = true } → count ≡ length names → after ≡ set (set table used (node.Atom (All count))) (used + 1) node.Star → ContentAt text names at (or_else anything (bracketed (drop at text) (drop at text)) (word (codes "ANY") (drop at text))) table used (Some body) after
-  unfolding or_else puts
-  content_any end body after count h body_is count-is put =
+  pub content_any : (end : ℕ) (mid after : ModelWriter) (count : ℕ) → EndOf text at (word (codes "ANY") (drop at text)) (Some end) → count ≡ length names → Put before (node.Atom (All count)) mid → Put mid node.Star after → ContentAt text names at (or_else anything (bracketed (drop at text) (drop at text)) (word (codes "ANY") (drop at text))) before (Some (record { value = true; end = end })) after
+  unfolding or_else
+  content_any end mid after count h count-is (wrote, known) (starred, still) =
       let w = worded (codes "ANY") text at end h in
-      let told : BodyIs text names at anything w.0 table used (record { part = record { end = end; atoms = 1; nodes = 2; known = true }; distinct = true }) after =
-      record {
-        part = record { stands = w.2; atom_count = refl; node_count = refl; small = omega (arith, w.3); all_known = refl; written = put ∙ ap (λ k. set (set table used (node.Atom (All k))) (used + 1) node.Star) count-is };
-        differ = λ known. refl;
-      } in
-      (anything, w.0, ap (or_else anything (bracketed (drop at text) (drop at text))) w.1, subst (λ b. BodyIs text names at anything w.0 table used b after) (sym body_is) told)
+      let both = wrote_append before mid after (node.Atom (All count) ∷ []) (node.Star ∷ []) wrote starred in (
+        anything,
+        drop end text,
+        ap (or_else anything (bracketed (drop at text) (drop at text))) w.reads,
+        record {
+          part = record {
+            stands = record { forward = omega (arith, w.place); inside = w.inside; behind = refl };
+            small = omega (arith, w.place);
+            all_known = still ∙ known ∙ true_stays before.told;
+            wrote = subst (λ k. Wrote before (node.Atom (All k) ∷ (node.Star ∷ [])) after) count-is both;
+          };
+          differ = λ _. refl;
+        },
+      )
 
-  pub content_bracketed : (r : Option Body) (after : Nodes) → EndOf text at (word (codes "ANY") (drop at text)) None → ContentAt text names at (bracketed (drop at text) (drop at text)) table used r after → ContentAt text names at (or_else anything (bracketed (drop at text) (drop at text)) (word (codes "ANY") (drop at text))) table used r after
+  pub content_bracketed : (r : Option (Read Bool)) (after : ModelWriter) → EndOf text at (word (codes "ANY") (drop at text)) None → ContentAt text names at (bracketed (drop at text) (drop at text)) before r after → ContentAt text names at (or_else anything (bracketed (drop at text) (drop at text)) (word (codes "ANY") (drop at text))) before r after
   unfolding or_else
   content_bracketed r after not-any h =
       content_same (or_else anything (bracketed (drop at text) (drop at text)) (word (codes "ANY") (drop at text))) (bracketed (drop at text) (drop at text)) r after
       (ap (or_else anything (bracketed (drop at text) (drop at text))) (end_bad text at (word (codes "ANY") (drop at text)) not-any)) h
 
-  pub children_told : (part : Part) (after : Nodes) → ExpressionAt text names at (marked (read_group deepest (drop at text))) table used (Some part) after → ContentAt text names at (as_children (marked (read_group deepest (drop at text)))) table used (Some (record { part = part; distinct = true })) after
+  pub children_told : (end : ℕ) (after : ModelWriter) → ExpressionAt text names at (marked (read_group deepest (drop at text))) before (Some end) after → ContentAt text names at (as_children (marked (read_group deepest (drop at text)))) before (Some (record { value = true; end = end })) after
   unfolding as_children
-  children_told part after (e, rest, reads, p) =
-      (children e, rest, ap as_children reads, record { part = p; differ = λ known. refl })
+  children_told end after (e, rest, reads, p) =
+      (children e, rest, ap as_children reads, record { part = p; differ = λ _. refl })
 
 unopened_by : (u t : List ℕ) → comes 40 t ≡ false → bracketed u t ≡ bad
 unfolding bracketed
@@ -110,7 +104,7 @@ module _ (text : List ℕ) (at : ℕ) where
     unfolding mixed_or
     bracket_mixed end h =
         let w = worded (codes "#PCDATA") text start end h in
-        inner ∙ ap (mixed_or (as_children (marked (read_group deepest (drop at text))))) w.1 ∙ ap (λ t. starred (shut (run mixed_name [] t))) (sym w.2.behind)
+        inner ∙ ap (mixed_or (as_children (marked (read_group deepest (drop at text))))) w.reads
 
     pub bracket_children : EndOf text start (word (codes "#PCDATA") (drop start text)) None → bracketed (drop at text) (drop at text) ≡ as_children (marked (read_group deepest (drop at text)))
     unfolding mixed_or

@@ -6,8 +6,9 @@ use Rattle.models.specs.Folds.{code}
 use Rattle.models.specs.declared.node.Node.{Node}
 use Rattle.scan.specs.Bytes.{is_blank, first_is}
 use Rattle.scan.specs.Comments.{read_comment}
-use Rattle.scan.specs.Lists.{all_listed, distinct, name_at, names_at, puts}
+use Rattle.scan.specs.Lists.{all_listed, distinct, names_at, puts}
 use Rattle.scan.specs.Names.{Name}
+use Rattle.scan.specs.Spans.{bytes_at}
 use Rattle.scan.specs.Readings.{Front, bad, got, Stands, EndOf, over, stuck, next}
 use Rattle.scan.specs.declared.entry.Entry.{Entry}
 use Rattle.std.specs.List.{prefix_len}
@@ -38,11 +39,11 @@ name_start text place = (place + 9) + prefix_len is_blank (drop (place + 9) text
 pub record DeclaredIs (text : List ℕ) (names : List Name) (at : ℕ) (d : Declaration) (rest : List ℕ) (told : Declared) : Type 0 where
   pub stands : Stands text at rest told.end
   pub longer : at < told.end
-  pub name : name_at text (record { place = at; start = told.name_start; end = told.name_end }) ≡ d.name
-  pub begins : told.name_start ≡ name_start text at
-  pub name_after : at ≤ told.name_start
-  pub name_forward : told.name_start ≤ told.name_end
-  pub name_before : told.name_end ≤ told.end
+  pub name : bytes_at text told.name ≡ d.name
+  pub begins : told.name.start ≡ name_start text at
+  pub name_after : at ≤ told.name.start
+  pub name_forward : told.name.start ≤ told.name.end
+  pub name_before : told.name.end ≤ told.end
   pub atom_count : told.atoms ≡ atoms (model names d.content)
   pub node_count : told.nodes ≡ length (code (model names d.content))
   pub small : at + told.nodes ≤ told.end

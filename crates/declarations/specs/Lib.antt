@@ -5,3 +5,4 @@ pub mod Inner
 pub mod Models
 pub mod Readers
 pub mod Theorems
+pub mod Writers

@@ -4,7 +4,7 @@ ghost use Rattle.declarations.specs.Answers.{PieceAt, numbered_names};
 
 use super::declared::Piece;
 use super::reading::declaration_at;
-use scan::{Entry, comment_end, is_blank, skip_blanks};
+use scan::{Entry, blank_at, comment_end, skip_blanks};
 
 // The item that stands at the place.
 pub fn item_at(text: &[u8], at: usize, entries: &[Entry]) -> Piece
@@ -13,9 +13,8 @@ pub fn item_at(text: &[u8], at: usize, entries: &[Entry]) -> Piece
     if at >= text.len() {
         return Piece::End;
     }
-    if is_blank(text[at]) {
-        let end = skip_blanks(text, at);
-        return Piece::Blanks(end);
+    if blank_at(text, at) {
+        return Piece::Blanks(skip_blanks(text, at));
     }
     if let Some(end) = comment_end(text, at) {
         return Piece::Comment(end);

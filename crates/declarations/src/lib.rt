@@ -5,11 +5,12 @@
 mod content;
 mod declared;
 mod items;
+mod marks;
 mod mixed;
+mod model;
 mod nesting;
-mod part;
 mod reading;
-mod steps;
+mod source;
 
 pub use declared::{Declared, Piece};
 pub use items::item_at;

@@ -1,25 +1,24 @@
 // Mixed models: text and the names that may stand in it.
 
-ghost use Rattle.std.specs.Int.Bits.{bit_or};
-ghost use Rattle.std.specs.Prelude.{◌≡◌, ℕ, ◌+◌, ◌-◌, ◌^◌, ◌<◌, ◌≤◌, true, not, ◌&&◌, List, [], ◌∷◌, ◌++◌, length, drop, set, slice_set};
-ghost use Rattle.declarations.specs.Answers.{Nodes, numbered_names};
+ghost use Rattle.std.specs.Prelude.{◌≡◌, ℕ, ◌≤◌, ◌<◌, true, false, List, [], ◌∷◌, ◌++◌, length, drop};
+ghost use Rattle.declarations.specs.Answers.{numbered_names};
 ghost use Rattle.declarations.specs.Inner.{PartIs, ContentAt, SeenIs};
 ghost use Rattle.declarations.specs.Models.{or_names};
 ghost use Rattle.declarations.specs.Readers.{mixed_name, shut, starred as read_star};
+ghost use Rattle.declarations.specs.Writers.{ModelWriter as OfModel};
 ghost use Rattle.engine.specs.declared.alphabet.ContentAtom.TheVariants.{Text as OfText};
-ghost use Rattle.models.specs.declared.node.Node.TheVariants.{Star as OfStar};
 ghost use Rattle.models.specs.Expressions.{atom};
-ghost use Rattle.scan.specs.Lists.{number_of, distinct as all_distinct};
+ghost use Rattle.scan.specs.Lists.{NumberIs, number_of, distinct as all_distinct, all_listed};
 ghost use Rattle.scan.specs.Names.{Name};
 ghost use Rattle.scan.specs.Readings.{got, run};
 
-use super::nesting::{BAR, CLOSING};
-use super::part::{Body, Part};
-use super::steps::{STAR, joined, leaf, write_leaf};
+use super::model::{ModelWriter, put_name};
+use super::source::{Source, numbered_at};
 use bits::{contains, only};
 use engine::ContentAtom;
 use models::Node;
-use scan::{Entry, byte_is, put, skip_blanks};
+use scan::{Read, byte_is, skip_blanks};
+use writing::{Joint, Mark};
 
 // The numbers of the names so far, as a set, and whether each of them was new when it came.
 #[derive(Clone, Copy)]
@@ -28,101 +27,74 @@ struct Seen {
     distinct: bool,
 }
 
-// With one name more.
-fn see(seen: Seen, number: u8) -> Seen
-    ensures { (names : List Name) (its : List Name) (name : Name) → length names ≤ 63 → number ≡ number_of names name → SeenIs names its seen → SeenIs names (its ++ (name ∷ [])) result }
-{
-    let came = contains(seen.set, number);
-    Seen {
-        set: seen.set | only(number),
-        distinct: seen.distinct && !came,
+impl Seen {
+    // With one name more, by its number. One without a number is none of those that have to differ.
+    fn with(self, number: Option<u8>) -> Seen
+        ensures { (names : List Name) (its : List Name) (name : Name) → length names ≤ 63 → NumberIs (number_of names name) number → SeenIs names its self → SeenIs names (its ++ (name ∷ [])) result }
+    {
+        let Some(number) = number else {
+            return self;
+        };
+        let came = contains(self.set, number);
+        Seen {
+            set: self.set | only(number),
+            distinct: self.distinct && !came,
+        }
     }
 }
 
-// The model with the star around it, which ends here.
-fn any_number(
-    end: usize,
-    part: Part,
-    distinct: bool,
-    nodes: &mut [Node<ContentAtom>],
-    used: usize,
-) -> Body
-    requires room { used + part.nodes + 1 < 2 ^ 64 }
-    ensures body { result ≡ record { part = record { end = end; atoms = part.atoms; nodes = part.nodes + 1; known = part.known }; distinct = distinct } }
-    ensures written { nodes.new ≡ slice_set nodes.old (used + part.nodes) OfStar }
-{
-    put(nodes, used + part.nodes, Node::Star);
-    Body {
-        part: Part {
-            end,
-            atoms: part.atoms,
-            nodes: part.nodes + 1,
-            known: part.known,
-        },
-        distinct,
-    }
-}
-
-// The star behind the bracket, which only a model with no names may leave out.
+// The star behind the bracket, which only a model with no names may leave out; and whether the names differ.
 fn starred(
     text: &[u8],
-    end: usize,
-    part: Part,
+    at: usize,
+    named: bool,
     distinct: bool,
-    nodes: &mut [Node<ContentAtom>],
-    used: usize,
-) -> Option<Body>
-    requires room { used + part.nodes + 1 < 2 ^ 64 }
-    ensures { (names : List Name) (at : ℕ) (its : List Name) (rest : List ℕ) (table : Nodes) → PartIs text.now names at (or_names names (atom OfText) its) its rest table used part nodes.old → part.end < end → end ≤ length text.now → (part.known ≡ true → distinct ≡ all_distinct its) → ContentAt text.now names at (read_star (got its (drop end text.now))) table used result nodes.new }
+    model: &mut ModelWriter<'_>,
+) -> Option<Read<bool>>
+    ensures same_table { model.new.nodes.ghost_name ≡ model.old.nodes.ghost_name }
+    ensures read { (names : List Name) (start : ℕ) (its : List Name) (rest : List ℕ) (before : OfModel) (end : ℕ) → PartIs text.now names start (or_names names (atom OfText) its) its rest before end model.old → end < at → at ≤ length text.now → (named ≡ true → 0 < length its) → (named ≡ false → length its ≡ 0) → (all_listed names its ≡ true → distinct ≡ all_distinct its) → ContentAt text.now names start (read_star (got its (drop at text.now))) before result model.new }
 {
-    if byte_is(text, end, STAR) {
-        let with_star = any_number(end + 1, part, distinct, nodes, used);
-        return Some(with_star);
-    }
-    if part.atoms > 1 {
+    let end = if byte_is(text, at, b'*') {
+        at + 1
+    } else if named {
         return None;
-    }
-    let plain = any_number(end, part, distinct, nodes, used);
-    Some(plain)
+    } else {
+        at
+    };
+    model.put(Node::from(Mark::AnyNumber));
+    Some(Read {
+        value: distinct,
+        end,
+    })
 }
 
-// A mixed model, from behind its first word on.
-pub fn mixed(
-    text: &[u8],
-    at: usize,
-    word: usize,
-    entries: &[Entry],
-    nodes: &mut [Node<ContentAtom>],
-    used: usize,
-) -> Option<Body>
-    requires room { used + (length text.now - at) < 2 ^ 64 }
-    requires forward { at < word }
-    requires inside { word ≤ length text.now }
-    ensures { ContentAt text.now (numbered_names text.now entries.now) at (read_star (shut (run mixed_name [] (drop word text.now)))) nodes.old used result nodes.new }
+// The place behind a mixed model, from behind its first word on, and whether its names differ.
+pub fn mixed(source: Source<'_>, word: usize, model: &mut ModelWriter<'_>) -> Option<Read<bool>>
+    ensures same_table { model.new.nodes.ghost_name ≡ model.old.nodes.ghost_name }
+    ensures read { (start : ℕ) → start < word → word ≤ length source.entry.text.now → ContentAt source.entry.text.now (numbered_names source.entry.text.now source.entry.entries.now) start (read_star (shut (run mixed_name [] (drop word source.entry.text.now)))) model.old result model.new }
 {
-    put(nodes, used, Node::Atom(ContentAtom::Text));
-    let mut part = Part {
-        end: word,
-        atoms: 1,
-        nodes: 1,
-        known: true,
-    };
+    let text = source.text;
+    model.put(Node::Atom(ContentAtom::Text));
+    let mut end = word;
+    let mut named = false;
     let mut seen = Seen {
         set: 0,
         distinct: true,
     };
     loop {
-        let here = skip_blanks(text, part.end);
-        if byte_is(text, here, CLOSING) {
-            return starred(text, here + 1, part, seen.distinct, nodes, used);
+        let here = skip_blanks(text, end);
+        if byte_is(text, here, b')') {
+            return starred(text, here + 1, named, seen.distinct, model);
         }
-        if !byte_is(text, here, BAR) {
+        if !byte_is(text, here, b'|') {
             return None;
         }
         let next = skip_blanks(text, here + 1);
-        let name = leaf(text, next, entries)?;
-        let more = write_leaf(name, nodes, used + part.nodes);
-        part = joined(part, more, true, nodes, used);
-        seen = see(seen, name.number);
+        let name = numbered_at(source, next)?;
+        put_name(model, name.value);
+        model.put(Node::from(Joint::Alternatives));
+        seen = seen.with(name.value);
+        named = true;
+        end = name.end;
     }
 }

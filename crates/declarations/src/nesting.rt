@@ -1,103 +1,87 @@
-// Expressions in brackets. One recursion reads them, counts and writes their nodes; with an empty table it only reads.
+// Expressions in brackets. One recursion reads them, and writes and counts their nodes.
 
-ghost use Rattle.std.specs.Prelude.{◌≡◌, ◌+◌, ◌-◌, ◌^◌, ◌<◌, length, drop};
+ghost use Rattle.std.specs.Prelude.{◌≡◌, drop};
 ghost use Rattle.declarations.specs.Answers.{numbered_names};
 ghost use Rattle.declarations.specs.Grammar.{sign as joint_sign};
-ghost use Rattle.declarations.specs.Inner.{ExpressionAt, read_unit, joint_of};
-ghost use Rattle.declarations.specs.Readers.{read_cp, read_group};
+ghost use Rattle.declarations.specs.Inner.{ExpressionAt, joint_of, read_unit};
+ghost use Rattle.declarations.specs.Readers.{joint_at as read_joint, read_cp, read_group};
 
-use super::part::Part;
-use super::steps::{joined, leaf, marked, write_leaf};
-use engine::ContentAtom;
+use super::marks::marked;
+use super::model::{ModelWriter, put_name};
+use super::source::{Source, numbered_at};
 use models::Node;
-use scan::{Entry, byte_is, skip_blanks};
+use scan::{byte_is, skip_blanks};
+use writing::Joint;
 
-pub const OPENING: u8 = 40;
-
-pub const CLOSING: u8 = 41;
-
-const COMMA: u8 = 44;
-
-pub const BAR: u8 = 124;
-
-// A group in brackets, with at most `left` brackets open at once.
+// The place behind a group in brackets, with at most `left` brackets open at once.
 #[cycle(group_particle_unit)]
-pub fn group(
-    text: &[u8],
-    at: usize,
-    left: u8,
-    entries: &[Entry],
-    nodes: &mut [Node<ContentAtom>],
-    used: usize,
-) -> Option<Part>
-    requires room { used + (length text.now - at) < 2 ^ 64 }
-    ensures { ExpressionAt text.now (numbered_names text.now entries.now) at (read_group left (drop at text.now)) nodes.old used result nodes.new }
+pub fn group(source: Source<'_>, at: usize, left: u8, model: &mut ModelWriter<'_>) -> Option<usize>
+    ensures same_table { model.new.nodes.ghost_name ≡ model.old.nodes.ghost_name }
+    ensures read { ExpressionAt source.entry.text.now (numbered_names source.entry.text.now source.entry.entries.now) at (read_group left (drop at source.entry.text.now)) model.old result model.new }
 {
-    if left == 0 || !byte_is(text, at, OPENING) {
+    let text = source.text;
+    if left == 0 || !byte_is(text, at, b'(') {
         return None;
     }
     let start = skip_blanks(text, at + 1);
-    let mut part = particle(text, start, left - 1, entries, nodes, used)?;
-    let behind_first = skip_blanks(text, part.end);
-    let bar = byte_is(text, behind_first, BAR);
+    let mut end = particle(source, start, left - 1, model)?;
+    let joint = joint_at(text, end);
     loop {
-        let here = skip_blanks(text, part.end);
-        if byte_is(text, here, CLOSING) {
-            return Some(Part {
-                end: here + 1,
-                atoms: part.atoms,
-                nodes: part.nodes,
-                known: part.known,
-            });
+        let here = skip_blanks(text, end);
+        if byte_is(text, here, b')') {
+            return Some(here + 1);
         }
-        if !byte_is(text, here, sign(bar)) {
+        if !byte_is(text, here, sign(joint)) {
             return None;
         }
         let next = skip_blanks(text, here + 1);
-        let more = particle(text, next, left - 1, entries, nodes, used + part.nodes)?;
-        part = joined(part, more, bar, nodes, used);
+        end = particle(source, next, left - 1, model)?;
+        model.put(Node::from(joint));
     }
 }
 
-// A name or a group, with the mark behind it.
+// The place behind a name or a group and the mark behind it.
 #[cycle(group_particle_unit)]
-fn particle(
-    text: &[u8],
-    at: usize,
-    left: u8,
-    entries: &[Entry],
-    nodes: &mut [Node<ContentAtom>],
-    used: usize,
-) -> Option<Part>
-    requires room { used + (length text.now - at) < 2 ^ 64 }
-    ensures { ExpressionAt text.now (numbered_names text.now entries.now) at (read_cp (read_group left) (drop at text.now)) nodes.old used result nodes.new }
+fn particle(source: Source<'_>, at: usize, left: u8, model: &mut ModelWriter<'_>) -> Option<usize>
+    ensures same_table { model.new.nodes.ghost_name ≡ model.old.nodes.ghost_name }
+    ensures read { ExpressionAt source.entry.text.now (numbered_names source.entry.text.now source.entry.entries.now) at (read_cp (read_group left) (drop at source.entry.text.now)) model.old result model.new }
 {
-    let part = unit(text, at, left, entries, nodes, used)?;
-    Some(marked(text, part, nodes, used))
+    let end = unit(source, at, left, model)?;
+    Some(marked(source.text, end, model))
 }
 
-// A name or a group.
+// The place behind a name or a group.
 #[cycle(group_particle_unit)]
-fn unit(
-    text: &[u8],
-    at: usize,
-    left: u8,
-    entries: &[Entry],
-    nodes: &mut [Node<ContentAtom>],
-    used: usize,
-) -> Option<Part>
-    requires room { used + (length text.now - at) < 2 ^ 64 }
-    ensures { ExpressionAt text.now (numbered_names text.now entries.now) at (read_unit left (drop at text.now)) nodes.old used result nodes.new }
+fn unit(source: Source<'_>, at: usize, left: u8, model: &mut ModelWriter<'_>) -> Option<usize>
+    ensures same_table { model.new.nodes.ghost_name ≡ model.old.nodes.ghost_name }
+    ensures read { ExpressionAt source.entry.text.now (numbered_names source.entry.text.now source.entry.entries.now) at (read_unit left (drop at source.entry.text.now)) model.old result model.new }
 {
-    match leaf(text, at, entries) {
-        Some(name) => Some(write_leaf(name, nodes, used)),
-        None => group(text, at, left, entries, nodes, used),
+    match numbered_at(source, at) {
+        Some(name) => {
+            put_name(model, name.value);
+            Some(name.end)
+        }
+        None => group(source, at, left, model),
+    }
+}
+
+// How the members of a group are joined, from behind the first one.
+fn joint_at(text: &[u8], at: usize) -> Joint
+    ensures { joint_of result ≡ read_joint (drop at text.now) }
+{
+    if byte_is(text, skip_blanks(text, at), sign(Joint::Alternatives)) {
+        Joint::Alternatives
+    } else {
+        Joint::Sequence
     }
 }
 
 // The byte that joins the members of a group.
-fn sign(bar: bool) -> u8
-    ensures { result ≡ joint_sign (joint_of bar) }
+fn sign(joint: Joint) -> u8
+    ensures { result ≡ joint_sign (joint_of joint) }
 {
-    if bar { BAR } else { COMMA }
+    match joint {
+        Joint::Sequence => b',',
+        Joint::Alternatives => b'|',
+    }
 }

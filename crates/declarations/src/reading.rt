@@ -1,36 +1,29 @@
 // One declaration at a place of a text: what is told of it, and its model written into a table.
 
-ghost use Rattle.std.specs.Prelude.{◌≡◌, ◌+◌, ◌-◌, ◌^◌, ◌<◌, length, drop};
+ghost use Rattle.std.specs.Prelude.{◌≡◌, drop};
 ghost use Rattle.declarations.specs.Answers.{DeclaredAt, with_model, numbered_names};
 ghost use Rattle.declarations.specs.Inner.{HeadAt, WritesAt};
 ghost use Rattle.declarations.specs.Readers.{read_declaration};
-ghost use Rattle.scan.specs.Bytes.{first_is, is_blank as blank};
 
 use super::content::content;
 use super::declared::Declared;
+use super::model::ModelWriter;
+use super::source::Source;
 use engine::ContentAtom;
 use models::Node;
-use scan::{Entry, byte_is, is_blank, name_end, skip_blanks, word_end};
+use scan::{Entry, Read, Span, blank_at, byte_is, name_end, skip_blanks, word_end};
+use writing::Writer;
 
-const CLOSE: u8 = 62;
-
-// The beginning of a declaration: where its name stands, and where its content begins.
+// What is told of a declaration besides what is written: where its name stands, and whether no name stands twice in
+// its mixed model.
 #[derive(Clone, Copy)]
 struct Head {
-    name_start: usize,
-    name_end: usize,
-    content: usize,
+    name: Span,
+    distinct: bool,
 }
 
-// Whether a blank stands at the place.
-fn blank_at(text: &[u8], at: usize) -> bool
-    ensures { result ≡ first_is blank (drop at text.now) }
-{
-    at < text.len() && is_blank(text[at])
-}
-
-// The beginning of a declaration, up to its content.
-fn opening(text: &[u8], at: usize) -> Option<Head>
+// Where the name of a declaration stands, and where its content begins.
+fn opening(text: &[u8], at: usize) -> Option<Read<Span>>
     ensures { HeadAt text.now at result }
 {
     let word = word_end(text, at, b"<!ELEMENT")?;
@@ -43,38 +36,29 @@ fn opening(text: &[u8], at: usize) -> Option<Head>
         return None;
     }
     let content = skip_blanks(text, end);
-    Some(Head {
-        name_start: start,
-        name_end: end,
-        content,
+    Some(Read {
+        value: Span { start, end },
+        end: content,
     })
 }
 
-// The declaration at the place, with its model written into the table from `used` on.
-fn declaration(
-    text: &[u8],
-    at: usize,
-    entries: &[Entry],
-    nodes: &mut [Node<ContentAtom>],
-    used: usize,
-) -> Option<Declared>
-    requires room { used + (length text.now - at) < 2 ^ 64 }
-    ensures { WritesAt text.now (numbered_names text.now entries.now) at nodes.old used result nodes.new }
+// The declaration at the place, with its model written.
+fn declaration(source: Source<'_>, at: usize, model: &mut ModelWriter<'_>) -> Option<Read<Head>>
+    ensures same_table { model.new.nodes.ghost_name ≡ model.old.nodes.ghost_name }
+    ensures read { WritesAt source.entry.text.now (numbered_names source.entry.text.now source.entry.entries.now) at model.old result model.new }
 {
-    let head = opening(text, at)?;
-    let body = content(text, head.content, entries, nodes, used)?;
-    let close = skip_blanks(text, body.part.end);
-    if !byte_is(text, close, CLOSE) {
+    let name = opening(source.text, at)?;
+    let body = content(source, name.end, model)?;
+    let close = skip_blanks(source.text, body.end);
+    if !byte_is(source.text, close, b'>') {
         return None;
     }
-    Some(Declared {
-        name_start: head.name_start,
-        name_end: head.name_end,
+    Some(Read {
+        value: Head {
+            name: name.value,
+            distinct: body.value,
+        },
         end: close + 1,
-        atoms: body.part.atoms,
-        nodes: body.part.nodes,
-        known: body.part.known,
-        distinct: body.distinct,
     })
 }
 
@@ -83,7 +67,16 @@ fn declaration(
 pub fn declaration_at(text: &[u8], at: usize, entries: &[Entry]) -> Option<Declared>
     ensures { DeclaredAt text.now (numbered_names text.now entries.now) at result }
 {
-    declaration(text, at, entries, &mut [], 0)
+    let mut model = Writer::new(&mut [], 0, true);
+    let read = declaration(Source { text, entries }, at, &mut model)?;
+    Some(Declared {
+        name: read.value.name,
+        end: read.end,
+        atoms: model.atoms,
+        nodes: model.used,
+        known: model.told,
+        distinct: read.value.distinct,
+    })
 }
 
 // Writes the nodes of the declaration's model into the table from `used` on; what has no place is left out, and where
@@ -97,10 +90,8 @@ pub fn write_model(
 )
     ensures { nodes.new ≡ with_model (numbered_names text.now entries.now) (read_declaration (drop at text.now)) nodes.old used }
 {
-    if used >= nodes.len() {
-        return;
-    }
-    if let Some(_) = declaration_at(text, at, entries) {
-        let _ = declaration(text, at, entries, nodes, used);
+    if declaration_at(text, at, entries).is_some() {
+        let mut model = Writer::new(nodes, used, true);
+        declaration(Source { text, entries }, at, &mut model);
     }
 }

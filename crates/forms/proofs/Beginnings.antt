@@ -1,13 +1,14 @@
 -- Which word opens an expression.
-use Rattle.std.proofs.Common.{◌≡◌, ℕ, ◌<◌, List, length, drop, Some, None, codes, refl, ap, ◌∙◌, arith}
+use Rattle.std.proofs.Common.{◌≡◌, ℕ, ◌<◌, List, length, drop, Some, None, Option, MatchOption, sym, ap, ◌∙◌, subst, arith}
 use Rattle.engine.specs.declared.range.ByteRange.{ByteRange}
 use Rattle.models.specs.Expressions.{Exp}
-use Rattle.scan.specs.Readings.{Front, bad, got, word, EndOf}
+use Rattle.scan.specs.Readings.{Front, bad, got, word}
 use Rattle.scan.proofs.Ends.{worded, end_bad}
 use Rattle.forms.specs.Grammar.{in_sequence, as_alternatives, opening, any_number, at_least_one, perhaps, mark_opening}
-use Rattle.forms.specs.Inner.{OpenedAt, read_opened}
-use Rattle.forms.specs.Readers.{read_range, read_members, read_marked, or_else, read_by_word}
+use Rattle.forms.specs.Inner.{OpenedAt, OpenedBy, read_opened}
+use Rattle.forms.specs.Readers.{read_members, read_marked, or_else, read_by_word}
 use Rattle.forms.specs.declared.openings.Opening.{Opening}
+use Rattle.scan.specs.declared.read.Read.{Read}
 
 abbrev pub Reading : Type 0
 Reading = List ℕ → Front (Exp ByteRange)
@@ -37,54 +38,34 @@ abbrev pub from_seq : Reading → List ℕ → Front (Exp ByteRange)
 from_seq inner t = or_else (read_members inner in_sequence) (from_alt inner t) (word (opening in_sequence) t)
 
 module _ (text : List ℕ) (at : ℕ) where
-  -- The word is not at the place.
-  abbrev pub Missing : List ℕ → Type 0
-  Missing w = EndOf text at (word w (drop at text)) None
+  -- What is known once some words were tried: which of them opens the expression, or as what the others read it.
+  abbrev pub Tried : (Reading → List ℕ → Front (Exp ByteRange)) → Option (Read Opening) → Type 0
+  Tried other None = (inner : Reading) → read_by_word inner (drop at text) ≡ other inner (drop at text)
+  Tried other (Some opened) = OpenedAt text at (Some opened)
 
-  gone : (w : List ℕ) → Missing w → word w (drop at text) ≡ bad
-  gone w h = end_bad text at (word w (drop at text)) h
+  -- One word more.
+  module _ (w : List ℕ) (some : 0 < length w) (opening : Opening) (other : Reading → List ℕ → Front (Exp ByteRange)) where
+    abbrev pub Before : Reading → List ℕ → Front (Exp ByteRange)
+    Before inner t = or_else (read_opened inner opening) (other inner t) (word w t)
 
-  -- An opening word, where those before it are missing.
-  pub opened_by : (opening : Opening) (w : List ℕ) (end : ℕ) (other : Reading → Front (Exp ByteRange)) → 0 < length w → EndOf text at (word w (drop at text)) (Some end) → ((inner : Reading) → read_by_word inner (drop at text) ≡ or_else (read_opened inner opening) (other inner) (word w (drop at text))) → OpenedAt text at (Some (record { opening = opening; end = end }))
-  opened_by opening w end other some h before =
-      let e = worded w text at end h in (
-        omega (arith, e.place),
-        e.inside,
-        λ inner. before inner ∙ takes (read_opened inner opening) (other inner) (word w (drop at text)) (drop end text) e.reads,
-      )
+    pub one_tried : ((inner : Reading) → read_by_word inner (drop at text) ≡ Before inner (drop at text)) → (r : Option (Read Opening)) → OpenedBy text at w opening r → Tried other r
+    one_tried before None h =
+        λ inner. before inner
+        ∙ passes (read_opened inner opening) (other inner (drop at text)) (word w (drop at text)) (end_bad text at (word w (drop at text)) (h some))
+    one_tried before (Some opened) (is, h) =
+        let e = worded w text at opened.end (h some) in (
+          omega (arith, e.place),
+          e.inside,
+          λ inner. before inner
+              ∙ takes (read_opened inner opening) (other inner (drop at text)) (word w (drop at text)) (drop opened.end text) e.reads
+              ∙ ap (λ o. read_opened inner o (drop opened.end text)) (sym is),
+        )
 
-  pub at_range : (inner : Reading) → read_by_word inner (drop at text) ≡ or_else read_range (from_seq inner (drop at text)) (word (codes "[range ") (drop at text))
-  at_range inner = refl
+    pub tried : {P : Type 0} (r s : Option (Read Opening)) → Tried Before r → MatchOption r P (λ x. s ≡ Some x) → (P → OpenedBy text at w opening s) → Tried other s
+    tried None s before h says = one_tried before s (says h)
+    tried (Some opened) s before h says = subst (Tried other) (sym h) before
 
-  module _ (no_range : Missing (codes "[range ")) where
-    pub at_seq : (inner : Reading) → read_by_word inner (drop at text) ≡ from_seq inner (drop at text)
-    at_seq inner = passes read_range (from_seq inner (drop at text)) (word (codes "[range ") (drop at text)) (gone (codes "[range ") no_range)
-
-    module _ (no-seq : Missing (codes "[seq ")) where
-      pub at_alt : (inner : Reading) → read_by_word inner (drop at text) ≡ from_alt inner (drop at text)
-      at_alt inner =
-          at_seq inner
-          ∙ passes (read_members inner in_sequence) (from_alt inner (drop at text)) (word (codes "[seq ") (drop at text)) (gone (codes "[seq ") no-seq)
-
-      module _ (no-alt : Missing (codes "[alt ")) where
-        pub at_star : (inner : Reading) → read_by_word inner (drop at text) ≡ from_star inner (drop at text)
-        at_star inner =
-            at_alt inner
-            ∙ passes (read_members inner as_alternatives) (from_star inner (drop at text)) (word (codes "[alt ") (drop at text)) (gone (codes "[alt ") no-alt)
-
-        module _ (no_star : Missing (codes "[star ")) where
-          pub at_plus : (inner : Reading) → read_by_word inner (drop at text) ≡ from_plus inner (drop at text)
-          at_plus inner =
-              at_star inner
-              ∙ passes (read_marked inner any_number) (from_plus inner (drop at text)) (word (codes "[star ") (drop at text)) (gone (codes "[star ") no_star)
-
-          module _ (no_plus : Missing (codes "[plus ")) where
-            pub at_opt : (inner : Reading) → read_by_word inner (drop at text) ≡ from_opt inner (drop at text)
-            at_opt inner =
-                at_plus inner
-                ∙ passes (read_marked inner at_least_one) (from_opt inner (drop at text)) (word (codes "[plus ") (drop at text)) (gone (codes "[plus ") no_plus)
-
-            pub at_none : Missing (codes "[opt ") → (inner : Reading) → read_by_word inner (drop at text) ≡ bad
-            at_none no-opt inner =
-                at_opt inner
-                ∙ passes (read_marked inner perhaps) bad (word (codes "[opt ") (drop at text)) (gone (codes "[opt ") no-opt)
+  -- Every word was tried.
+  pub all_tried : (r : Option (Read Opening)) → Tried (λ inner t. bad) r → OpenedAt text at r
+  all_tried None h = h
+  all_tried (Some opened) h = h

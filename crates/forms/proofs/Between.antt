@@ -10,8 +10,7 @@ use Rattle.scan.proofs.Ends.{worded, end_bad}
 use Rattle.forms.specs.Inner.{NumeralAt, RangeAt}
 use Rattle.forms.specs.Numbers.{is_small, small_enough, read_byte}
 use Rattle.forms.specs.Readers.{range_by, range_from, shut_range, with_high, behind_low, with_low, read_range}
-use Rattle.forms.specs.declared.numerals.Numeral.{Numeral}
-use Rattle.forms.specs.declared.steps.Ranged.{Ranged}
+use Rattle.scan.specs.declared.read.Read.{Read}
 
 -- Two ranges with the same ends are the same: that the ends are in order is told in one way only.
 pub range_same : (a b : ByteRange) → a.low ≡ b.low → a.high ≡ b.high → a ≡ b
@@ -39,7 +38,7 @@ by_order low high false s p q t range a b =
     absurd (omega (arith, range.ordered.0))
 
 -- No range.
-pub range_none : (text : List ℕ) (at : ℕ) (r : Option Ranged) → r ≡ None → read_range (drop at text) ≡ bad → RangeAt text at r
+pub range_none : (text : List ℕ) (at : ℕ) (r : Option (Read ByteRange)) → r ≡ None → read_range (drop at text) ≡ bad → RangeAt text at r
 range_none text at r none h = subst (RangeAt text at) (sym none) h
 
 module _ (text : List ℕ) (at : ℕ) where
@@ -47,7 +46,7 @@ module _ (text : List ℕ) (at : ℕ) where
   unfolding with_low
   no_low e = ap with_low e
 
-  module _ (low : Numeral) (l : NumeralAt text at (Some low)) where
+  module _ (low : Read ℕ) (l : NumeralAt text at (Some low)) where
     behind_it : read_range (drop at text) ≡ behind_low low.value (word (codes " ") (drop low.end text))
     unfolding with_low
     behind_it = ap with_low l.1 ∙ ap (λ t. behind_low low.value (word (codes " ") t)) (sym l.2.behind)
@@ -65,7 +64,7 @@ module _ (text : List ℕ) (at : ℕ) where
       unfolding with_high
       no_high e = before_high ∙ ap (with_high low.value) e
 
-      module _ (high : Numeral) (h : NumeralAt text space (Some high)) where
+      module _ (high : Read ℕ) (h : NumeralAt text space (Some high)) where
         before_end : read_range (drop at text) ≡ shut_range low.value high.value (word (codes "]") (drop high.end text))
         unfolding with_high
         before_end =
@@ -84,7 +83,7 @@ module _ (text : List ℕ) (at : ℕ) where
           pub no_range : (low.value ≤ high.value → ⊥) → read_range (drop at text) ≡ bad
           no_range wrong = made ∙ by_disorder low.value high.value (leb low.value high.value) (is_small high.value) refl refl (drop end text) wrong
 
-          pub ranged : (range : ByteRange) → range.low ≡ low.value → range.high ≡ high.value → RangeAt text at (Some (record { range = range; end = end }))
+          pub ranged : (range : ByteRange) → range.low ≡ low.value → range.high ≡ high.value → RangeAt text at (Some (record { value = range; end = end }))
           ranged range a b =
               let v = worded (codes " ") text low.end space s in
               let w = worded (codes "]") text high.end end e in (

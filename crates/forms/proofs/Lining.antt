@@ -1,17 +1,21 @@
 -- The line of a form, from its parts.
-use Rattle.std.proofs.Common.{◌≡◌, ℕ, ◌-◌, ◌≤◌, true, false, List, [], ◌∷◌, length, take, drop, is_some, Some, None, codes, Option, sym, refl, ap, ◌∙◌, subst, arith}
+use Rattle.std.proofs.Common.{◌≡◌, ℕ, ◌-◌, ◌^◌, ◌<◌, ◌≤◌, true, false, List, [], ◌∷◌, length, take, drop, is_some, Some, None, codes, Option, sym, refl, ap, ◌∙◌, subst, arith}
 use Rattle.std.proofs.lemmas.Bool.{false≢true}
+use Rattle.engine.specs.declared.range.ByteRange.{ByteRange}
+use Rattle.models.specs.Expressions.{atoms}
 use Rattle.models.specs.Folds.{code}
 use Rattle.scan.specs.Names.{read_name}
-use Rattle.scan.specs.Readings.{Front, bad, got, word, EndOf}
+use Rattle.scan.specs.Readings.{bad, got, word, EndOf}
 use Rattle.scan.proofs.Ends.{worded, end_bad}
-use Rattle.scan.proofs.Writing.{puts_past}
+use Rattle.writing.specs.declared.writer.Writer.{Writer}
+use Rattle.writing.proofs.Writing.{atoms_in_code, atoms_in_le}
 use Rattle.forms.specs.Answers.{Nodes, FormAt, with_form}
-use Rattle.forms.specs.Grammar.{Form, deepest}
+use Rattle.forms.specs.Grammar.{deepest}
 use Rattle.forms.specs.Inner.{ExpressionAt, WritesAt}
 use Rattle.forms.specs.Readers.{read_expression, shut_line, with_shape, behind_name, with_name, behind_bracket, read_line}
 use Rattle.forms.specs.declared.lines.Lined.{Lined}
-use Rattle.forms.specs.declared.part.Part.{Part}
+use Rattle.scan.specs.declared.read.Read.{Read}
+use Rattle.scan.specs.declared.span.Span.{Span}
 
 module _ (text : List ℕ) (at : ℕ) where
   pub no_bracket : EndOf text at (word (codes "[") (drop at text)) None → read_line (drop at text) ≡ bad
@@ -47,26 +51,26 @@ module _ (text : List ℕ) (at : ℕ) where
         unfolding with_shape
         no_shape e = before_shape ∙ ap (with_shape (take (name - start) (drop start text))) e
 
-        module _ (table : Nodes) (used : ℕ) (part : Part) (after : Nodes) (p : ExpressionAt text shape (read_expression deepest (drop shape text)) table used (Some part) after) where
-          before_end : read_line (drop at text) ≡ shut_line (record { name = take (name - start) (drop start text); shape = p.0 }) (word (93 ∷ (10 ∷ [])) (drop part.end text))
+        module _ (before : Writer ByteRange (Unit {0})) (bracket : ℕ) (after : Writer ByteRange (Unit {0})) (p : ExpressionAt text shape (read_expression deepest (drop shape text)) before (Some bracket) after) where
+          before_end : read_line (drop at text) ≡ shut_line (record { name = take (name - start) (drop start text); shape = p.0 }) (word (93 ∷ (10 ∷ [])) (drop bracket text))
           unfolding with_shape
           before_end =
               before_shape
               ∙ ap (with_shape (take (name - start) (drop start text))) p.2
               ∙ ap (λ t. shut_line (record { name = take (name - start) (drop start text); shape = p.0 }) (word (93 ∷ (10 ∷ [])) t)) (sym p.3.stands.behind)
 
-          pub no_end : EndOf text part.end (word (93 ∷ (10 ∷ [])) (drop part.end text)) None → read_line (drop at text) ≡ bad
+          pub no_end : EndOf text bracket (word (93 ∷ (10 ∷ [])) (drop bracket text)) None → read_line (drop at text) ≡ bad
           unfolding shut_line
           no_end h =
               before_end
-              ∙ ap (shut_line (record { name = take (name - start) (drop start text); shape = p.0 })) (end_bad text part.end (word (93 ∷ (10 ∷ [])) (drop part.end text)) h)
+              ∙ ap (shut_line (record { name = take (name - start) (drop start text); shape = p.0 })) (end_bad text bracket (word (93 ∷ (10 ∷ [])) (drop bracket text)) h)
 
-          pub lined : (end : ℕ) → EndOf text part.end (word (93 ∷ (10 ∷ [])) (drop part.end text)) (Some end) → start ≤ name → WritesAt text at table used (Some (record { name_start = start; name_end = name; end = end; atoms = part.atoms; nodes = part.nodes })) after
+          pub lined : (end : ℕ) → EndOf text bracket (word (93 ∷ (10 ∷ [])) (drop bracket text)) (Some end) → start ≤ name → WritesAt text at before (Some (record { value = record { start = start; end = name }; end = end })) after
           unfolding shut_line
           lined end h forward =
               let u = worded (codes "[") text at start b in
               let v = worded (codes " ") text name shape s in
-              let w = worded (93 ∷ (10 ∷ [])) text part.end end h in
+              let w = worded (93 ∷ (10 ∷ [])) text bracket end h in
               let q = p.3 in (
                 record { name = take (name - start) (drop start text); shape = p.0 },
                 drop end text,
@@ -78,32 +82,44 @@ module _ (text : List ℕ) (at : ℕ) where
                   name_starts = omega (arith, u.place);
                   name_forward = forward;
                   name_before = omega (arith, v.place, w.place, q.stands.forward);
-                  atom_count = q.atom_count;
-                  node_count = q.node_count;
                   small = omega (arith, u.place, v.place, w.place, q.small);
                 },
-                q.written,
+                q.wrote,
               )
 
-  pub no_line : (table : Nodes) (used : ℕ) (r : Option Lined) (after : Nodes) → r ≡ None → read_line (drop at text) ≡ bad → WritesAt text at table used r after
-  no_line table used r after none h = subst (λ o. WritesAt text at table used o after) (sym none) h
+  pub no_line : (before : Writer ByteRange (Unit {0})) (r : Option (Read Span)) (after : Writer ByteRange (Unit {0})) → r ≡ None → read_line (drop at text) ≡ bad → WritesAt text at before r after
+  no_line before r after none h = subst (λ o. WritesAt text at before o after) (sym none) h
 
-  pub form_past : (table : Nodes) (used : ℕ) → length table ≤ used → table ≡ with_form (read_line (drop at text)) table used
-  unfolding with_form
-  form_past table used h = by (read_line (drop at text))
-    where
-      by : (front : Front Form) → table ≡ with_form front table used
-      by bad = refl
-      by (got form rest) = sym (puts_past table used (code form.shape) h)
+  -- With nothing written before, the writer has counted the atoms and nodes of the form.
+  pub told : (before : Writer ByteRange (Unit {0})) (line : Read Span) (after : Writer ByteRange (Unit {0})) → before.used ≡ 0 → before.atoms ≡ 0 → line.end < 2 ^ 64 → WritesAt text at before (Some line) after → FormAt text at (Some (record { name = line.value; end = line.end; atoms = after.atoms; nodes = after.used }))
+  told before line after unused no_atoms short (form, rest, reads, is, wrote) =
+      let nodes : after.used ≡ length (code form.shape) = omega (arith, is.small, wrote.used.exact (omega (arith, is.small))) in
+      let atoms : after.atoms ≡ atoms form.shape =
+      omega (arith, atoms_in_code form.shape, wrote.atoms.exact (omega (arith, is.small, atoms_in_le (code form.shape)))) in (
+        form,
+        rest,
+        reads,
+        record {
+          stands = is.stands;
+          longer = is.longer;
+          name = is.name;
+          name_starts = is.name_starts;
+          name_forward = is.name_forward;
+          name_before = is.name_before;
+          atom_count = atoms;
+          node_count = nodes;
+          small = omega (arith, is.small);
+        },
+      )
 
   pub form_none : (table : Nodes) (used : ℕ) (told : Option Lined) → is_some told ≡ false → FormAt text at told → table ≡ with_form (read_line (drop at text)) table used
   unfolding with_form
   form_none table used None none h = sym (ap (λ f. with_form f table used) h)
   form_none table used (Some told) none h = absurd (false≢true (sym none))
 
-  pub form_some : (table : Nodes) (used : ℕ) (told r : Option Lined) (after : Nodes) → is_some told ≡ true → FormAt text at told → WritesAt text at table used r after → after ≡ with_form (read_line (drop at text)) table used
+  pub form_some : (before : Writer ByteRange (Unit {0})) (told : Option Lined) (r : Option (Read Span)) (after : Writer ByteRange (Unit {0})) → is_some told ≡ true → FormAt text at told → WritesAt text at before r after → after.nodes.now ≡ with_form (read_line (drop at text)) before.nodes.now before.used
   unfolding with_form
-  form_some table used None r after some there h = absurd (false≢true some)
-  form_some table used (Some told) None after some (form, rest, reads, is) h = absurd (let wrong : ◌≡◌ {A = ℕ} 0 1 = cc in omega arith)
-  form_some table used (Some told) (Some again) after some there (form, rest, reads, is, put) =
-      put ∙ sym (ap (λ f. with_form f table used) reads)
+  form_some before None r after some there h = absurd (false≢true some)
+  form_some before (Some told) None after some (form, rest, reads, is) h = absurd (let wrong : ◌≡◌ {A = ℕ} 0 1 = cc in omega arith)
+  form_some before (Some told) (Some again) after some there (form, rest, reads, is, wrote) =
+      wrote.written ∙ sym (ap (λ f. with_form f before.nodes.now before.used) reads)

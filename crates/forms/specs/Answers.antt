@@ -4,7 +4,8 @@ use Rattle.engine.specs.declared.range.ByteRange.{ByteRange}
 use Rattle.models.specs.Expressions.{atoms}
 use Rattle.models.specs.Folds.{code}
 use Rattle.models.specs.declared.node.Node.{Node}
-use Rattle.scan.specs.Lists.{name_at, puts}
+use Rattle.scan.specs.Lists.{puts}
+use Rattle.scan.specs.Spans.{bytes_at}
 use Rattle.scan.specs.Readings.{Front, bad, got, Stands}
 use Rattle.forms.specs.Grammar.{Form}
 use Rattle.forms.specs.Readers.{read_line}
@@ -19,10 +20,10 @@ Nodes = List (Node ByteRange)
 pub record LinedIs (text : List ℕ) (at : ℕ) (form : Form) (rest : List ℕ) (told : Lined) : Type 0 where
   pub stands : Stands text at rest told.end
   pub longer : at < told.end
-  pub name : name_at text (record { place = at; start = told.name_start; end = told.name_end }) ≡ form.name
-  pub name_starts : told.name_start ≡ at + 1
-  pub name_forward : told.name_start ≤ told.name_end
-  pub name_before : told.name_end ≤ told.end
+  pub name : bytes_at text told.name ≡ form.name
+  pub name_starts : told.name.start ≡ at + 1
+  pub name_forward : told.name.start ≤ told.name.end
+  pub name_before : told.name.end ≤ told.end
   pub atom_count : told.atoms ≡ atoms form.shape
   pub node_count : told.nodes ≡ length (code form.shape)
   pub small : at + told.nodes ≤ told.end

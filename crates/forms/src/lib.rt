@@ -6,7 +6,5 @@ mod lines;
 mod nesting;
 mod numerals;
 mod openings;
-mod part;
-mod steps;
 
 pub use lines::{Lined, form_at, write_form};

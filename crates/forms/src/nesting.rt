@@ -1,120 +1,102 @@
-// Expressions in brackets. One recursion reads them, counts and writes their nodes; with an empty table it only reads.
+// Expressions in brackets. One recursion reads them, and writes and counts their nodes.
 
-ghost use Rattle.std.specs.Prelude.{ℕ, ◌+◌, ◌-◌, ◌^◌, ◌<◌, ◌≤◌, List, length, drop};
+ghost use Rattle.std.specs.Prelude.{◌≡◌, ℕ, List, drop};
 ghost use Rattle.engine.specs.declared.range.ByteRange.{ByteRange as OfRange};
-ghost use Rattle.forms.specs.Answers.{Nodes};
 ghost use Rattle.forms.specs.Inner.{PartIs, ExpressionAt, joint_of, mark_of, read_more};
 ghost use Rattle.forms.specs.Readers.{read_expression, read_members, read_marked};
 ghost use Rattle.models.specs.Expressions.{Exp};
+ghost use Rattle.writing.specs.declared.writer.Writer.{Writer as OfWriter};
 
-use super::openings::{Joint, Mark, Opening, opening_at};
-use super::part::Part;
-use super::steps::{joined, range_at, write_range};
+use super::numerals::range_at;
+use super::openings::{Opening, opening_at};
 use engine::ByteRange;
 use models::Node;
-use scan::{byte_is, put, word_end};
+use scan::{byte_is, word_end};
+use writing::{Joint, Mark, Writer};
 
-const SPACE: u8 = 32;
-
-const CLOSING: u8 = 93;
-
-// An expression, with at most `left` brackets open at once.
+// The place behind an expression, with at most `left` brackets open at once.
 #[cycle(expression_marked_members_more_members)]
 pub fn expression(
     text: &[u8],
     at: usize,
     left: u8,
-    nodes: &mut [Node<ByteRange>],
-    used: usize,
-) -> Option<Part>
-    requires room { used + (length text.now - at) < 2 ^ 64 }
-    ensures { ExpressionAt text.now at (read_expression left (drop at text.now)) nodes.old used result nodes.new }
+    writer: &mut Writer<'_, ByteRange, ()>,
+) -> Option<usize>
+    ensures same_table { writer.new.nodes.ghost_name ≡ writer.old.nodes.ghost_name }
+    ensures read { ExpressionAt text.now at (read_expression left (drop at text.now)) writer.old result writer.new }
 {
     if left == 0 {
         return None;
     }
     let opened = opening_at(text, at)?;
-    match opened.opening {
+    match opened.value {
         Opening::Range => {
-            let ranged = range_at(text, opened.end)?;
-            Some(write_range(ranged, nodes, used))
+            let range = range_at(text, opened.end)?;
+            writer.put(Node::Atom(range.value));
+            Some(range.end)
         }
-        Opening::Members(joint) => members(text, opened.end, left - 1, joint, nodes, used),
-        Opening::Marked(mark) => marked(text, opened.end, left - 1, mark, nodes, used),
+        Opening::Members(joint) => members(text, opened.end, left - 1, joint, writer),
+        Opening::Marked(mark) => marked(text, opened.end, left - 1, mark, writer),
     }
 }
 
-// What a mark is put on, from behind the opening word on, and the mark.
+// The place behind what a mark is put on and the mark, from behind the opening word on.
 #[cycle(expression_marked_members_more_members)]
 fn marked(
     text: &[u8],
     at: usize,
     left: u8,
     mark: Mark,
-    nodes: &mut [Node<ByteRange>],
-    used: usize,
-) -> Option<Part>
-    requires room { used + (length text.now - at) < 2 ^ 64 }
-    ensures { ExpressionAt text.now at (read_marked (read_expression left) (mark_of mark) (drop at text.now)) nodes.old used result nodes.new }
+    writer: &mut Writer<'_, ByteRange, ()>,
+) -> Option<usize>
+    ensures same_table { writer.new.nodes.ghost_name ≡ writer.old.nodes.ghost_name }
+    ensures read { ExpressionAt text.now at (read_marked (read_expression left) (mark_of mark) (drop at text.now)) writer.old result writer.new }
 {
-    let inner = expression(text, at, left, nodes, used)?;
-    let end = word_end(text, inner.end, b"]")?;
-    put(nodes, used + inner.nodes, mark.node());
-    Some(Part {
-        end,
-        atoms: inner.atoms,
-        nodes: inner.nodes + 1,
-    })
+    let inside = expression(text, at, left, writer)?;
+    let end = word_end(text, inside, b"]")?;
+    writer.put(Node::from(mark));
+    Some(end)
 }
 
-// The members of a list, from behind its opening word on: two or more.
+// The place behind the members of a list, from behind its opening word on: two or more.
 #[cycle(expression_marked_members_more_members)]
 fn members(
     text: &[u8],
     at: usize,
     left: u8,
     joint: Joint,
-    nodes: &mut [Node<ByteRange>],
-    used: usize,
-) -> Option<Part>
-    requires room { used + (length text.now - at) < 2 ^ 64 }
-    ensures { ExpressionAt text.now at (read_members (read_expression left) (joint_of joint) (drop at text.now)) nodes.old used result nodes.new }
+    writer: &mut Writer<'_, ByteRange, ()>,
+) -> Option<usize>
+    ensures same_table { writer.new.nodes.ghost_name ≡ writer.old.nodes.ghost_name }
+    ensures read { ExpressionAt text.now at (read_members (read_expression left) (joint_of joint) (drop at text.now)) writer.old result writer.new }
 {
-    let first = expression(text, at, left, nodes, used)?;
-    let space = word_end(text, first.end, b" ")?;
-    let second = expression(text, space, left, nodes, used + first.nodes)?;
-    let two = joined(first, second, joint, nodes, used);
-    more_members(text, two, left, joint, nodes, used)
+    let first = expression(text, at, left, writer)?;
+    let space = word_end(text, first, b" ")?;
+    let second = expression(text, space, left, writer)?;
+    writer.put(Node::from(joint));
+    more_members(text, second, left, joint, writer)
 }
 
-// The members behind the first two, and the closing bracket.
+// The place behind the members that follow the first two, and the closing bracket.
 #[cycle(expression_marked_members_more_members)]
 fn more_members(
     text: &[u8],
-    two: Part,
+    at: usize,
     left: u8,
     joint: Joint,
-    nodes: &mut [Node<ByteRange>],
-    used: usize,
-) -> Option<Part>
-    requires room { used + two.nodes + (length text.now - two.end) < 2 ^ 64 }
-    requires inside { two.end ≤ length text.now }
-    requires few { two.atoms ≤ two.nodes }
-    ensures { (at : ℕ) (e : Exp OfRange) (rest : List ℕ) (table : Nodes) → PartIs text.now at e rest table used two nodes.old → ExpressionAt text.now at (read_more left (joint_of joint) e rest) table used result nodes.new }
+    writer: &mut Writer<'_, ByteRange, ()>,
+) -> Option<usize>
+    ensures same_table { writer.new.nodes.ghost_name ≡ writer.old.nodes.ghost_name }
+    ensures read { (start : ℕ) (e : Exp OfRange) (rest : List ℕ) (before : OfWriter OfRange (Unit {0})) → PartIs text.now start e rest before at writer.old → ExpressionAt text.now start (read_more left (joint_of joint) e rest) before result writer.new }
 {
-    let mut part = two;
-    loop {
-        if byte_is(text, part.end, CLOSING) {
-            return Some(Part {
-                end: part.end + 1,
-                atoms: part.atoms,
-                nodes: part.nodes,
-            });
-        }
-        if !byte_is(text, part.end, SPACE) {
-            return None;
-        }
-        let more = expression(text, part.end + 1, left, nodes, used + part.nodes)?;
-        part = joined(part, more, joint, nodes, used);
+    let mut here = at;
+    while byte_is(text, here, b' ') {
+        here = expression(text, here + 1, left, writer)?;
+        writer.put(Node::from(joint));
+    }
+    if byte_is(text, here, b']') {
+        Some(here + 1)
+    } else {
+        None
     }
 }

@@ -1,95 +1,72 @@
-// Bytes in base ten.
+// Bytes in base ten, and ranges between two of them.
 
-ghost use Rattle.std.specs.Prelude.{◌≡◌, ℕ, ◌+◌, ◌-◌, ◌*◌, ◌≤◌, length, take, drop};
-ghost use Rattle.forms.specs.Inner.{Kept, DigitsAt, NumeralAt};
-ghost use Rattle.forms.specs.Numbers.{is_digit as digit, no_leading_zero};
-ghost use Rattle.scan.specs.Bytes.{first_is};
+ghost use Rattle.std.specs.Prelude.{◌≡◌, ◌≤◌, length, take, drop};
+ghost use Rattle.std.specs.List.{prefix_len};
+ghost use Rattle.forms.specs.Inner.{NumeralAt, RangeAt, ValueIs};
+ghost use Rattle.forms.specs.Numbers.{is_digit, no_leading_zero};
 
-use scan::byte_is;
+use engine::ByteRange;
+use scan::{Read, rest, word_end};
 
-const ZERO: u8 = 48;
-
-const NINE: u8 = 57;
-
-const LARGEST: usize = 255;
-
-// Digits that stand at a place: where they end, and the number that they write, if it is a byte; if not, some number
-// that is none either.
-#[derive(Clone, Copy)]
-struct Digits {
-    end: usize,
-    value: usize,
-}
-
-// A byte that was read, and where its digits end.
-#[derive(Clone, Copy)]
-pub struct Numeral {
-    pub value: u8,
-    pub end: usize,
-}
-
-// Whether the byte is a digit.
-fn is_digit(byte: u8) -> bool
-    ensures { result ≡ digit byte }
+// How many digits a text begins with.
+fn digits_len(text: &[u8]) -> usize
+    ensures count { result ≡ prefix_len is_digit text.now }
+    ensures within { result ≤ length text.now }
 {
-    ZERO <= byte && byte <= NINE
-}
-
-// Whether a digit stands at the place.
-fn digit_at(text: &[u8], at: usize) -> bool
-    ensures { result ≡ first_is digit (drop at text.now) }
-{
-    at < text.len() && is_digit(text[at])
-}
-
-// The number with one more digit behind it. What is no byte stays none.
-fn grown(value: usize, byte: u8) -> usize
-    requires { 48 ≤ byte }
-    ensures { (n : ℕ) → Kept n value → Kept (10 * n + (byte - 48)) result }
-{
-    if value > LARGEST {
-        return value;
-    }
-    10 * value + usize::from(byte - ZERO)
+    text.iter().take_while(|byte| byte.is_ascii_digit()).count()
 }
 
 // All the digits that stand at the place.
-fn digits_at(text: &[u8], at: usize) -> Digits
-    ensures { DigitsAt text.now at result }
+fn digits_at<'t>(text: &'t [u8], at: usize) -> &'t [u8]
+    ensures { result.now ≡ take (prefix_len is_digit (drop at text.now)) (drop at text.now) }
 {
-    let mut here = at;
-    let mut value = 0;
-    while digit_at(text, here) {
-        value = grown(value, text[here]);
-        here += 1;
-    }
-    Digits { end: here, value }
+    let rest = rest(text, at);
+    &rest[..digits_len(rest)]
 }
 
-// Whether the digits at the place, so many of them, have no zero before another digit.
-fn is_plain(text: &[u8], at: usize, count: usize) -> bool
-    requires { count ≤ length (drop at text.now) }
-    ensures { result ≡ no_leading_zero (take count (drop at text.now)) }
+// Whether no zero stands before another digit.
+fn is_plain(digits: &[u8]) -> bool
+    ensures { result ≡ no_leading_zero digits.now }
 {
-    count < 2 || !byte_is(text, at, ZERO)
+    digits.len() < 2 || digits[0] != b'0'
+}
+
+// The number that digits write, if it is a byte.
+fn value_of(digits: &[u8]) -> Option<u8>
+    ensures { ValueIs digits.now result }
+{
+    let mut value: u8 = 0;
+    for digit in digits {
+        value = value
+            .checked_mul(10)?
+            .checked_add(digit.saturating_sub(b'0'))?;
+    }
+    Some(value)
 }
 
 // The byte that stands at the place in base ten.
-pub fn byte_at(text: &[u8], at: usize) -> Option<Numeral>
+pub fn byte_at(text: &[u8], at: usize) -> Option<Read<u8>>
     ensures { NumeralAt text.now at result }
 {
     let digits = digits_at(text, at);
-    if digits.end == at {
+    if digits.is_empty() || !is_plain(digits) {
         return None;
     }
-    if digits.value > LARGEST {
-        return None;
-    }
-    if !is_plain(text, at, digits.end - at) {
-        return None;
-    }
-    Some(Numeral {
-        value: digits.value as u8,
-        end: digits.end,
+    let value = value_of(digits)?;
+    Some(Read {
+        value,
+        end: at + digits.len(),
     })
+}
+
+// The range at the place, from behind its opening word on.
+pub fn range_at(text: &[u8], at: usize) -> Option<Read<ByteRange>>
+    ensures { RangeAt text.now at result }
+{
+    let low = byte_at(text, at)?;
+    let space = word_end(text, low.end, b" ")?;
+    let high = byte_at(text, space)?;
+    let end = word_end(text, high.end, b"]")?;
+    let value = ByteRange::new(low.value, high.value)?;
+    Some(Read { value, end })
 }

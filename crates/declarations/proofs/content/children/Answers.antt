@@ -7,18 +7,18 @@ use Rattle.declarations.proofs.Leaves.{particle_got, particle_bad}
 use Rattle.declarations.proofs.Wholes.{children_told, children_bad}
 use Rattle.declarations.proofs.content.children.Goals as goal
 
-pub returns-in_err-inner : goal.returns-in_err-inner
-returns-in_err-inner c =
-    let text = c.args.text.now in
-    let names = numbered_names text c.args.entries.now in
+pub returns-in_err-bracket-clause-read : goal.returns-in_err-bracket-clause-read
+returns-in_err-bracket-clause-read c =
+    let text = c.args.source.text.now in
+    let names = numbered_names text c.args.source.entries.now in
     let t = drop c.args.at text in
-    let none = children_bad t (particle_bad (read_group deepest t) c.in_err-inner.ensures) in
-    subst (λ r. ContentAt text names c.args.at (as_children (marked (read_group deepest t))) c.args.nodes.now c.args.used r c.group.new.nodes) (sym c.from_residual.ensures) none
+    let none = children_bad t (particle_bad (read_group deepest t) c.in_err-bracket.ensures.read) in
+    subst (λ r. ContentAt text names c.args.at (as_children (marked (read_group deepest t))) c.args.model.now r c.group.new.model) (sym c.from_residual.ensures) none
 
-pub returns : goal.returns
-returns c =
-    let text = c.args.text.now in
-    let names = numbered_names text c.args.entries.now in
-    let u = c.in_ok-inner.ensures in
-    children_told text names c.args.at c.args.nodes.now c.args.used c.marked-part.result c.marked-part.new.nodes
-    (particle_got text names c.args.at c.args.nodes.now c.args.used (read_group deepest (drop c.args.at text)) u.0 u.1 c.marked-part.result c.marked-part.new.nodes u.2 (c.marked-part.ensures names c.args.at u.0 u.1 c.args.nodes.now u.3))
+pub returns-clause-read : goal.returns-clause-read
+returns-clause-read c =
+    let text = c.args.source.text.now in
+    let names = numbered_names text c.args.source.entries.now in
+    let u = c.in_ok-bracket.ensures.read in
+    children_told text names c.args.at c.args.model.now c.marked-end.result c.marked-end.new.model
+    (particle_got text names c.args.at c.args.model.now (read_group deepest (drop c.args.at text)) u.0 u.1 c.marked-end.result c.marked-end.new.model u.2 (c.marked-end.ensures.read names c.args.at u.0 u.1 c.args.model.now u.3))

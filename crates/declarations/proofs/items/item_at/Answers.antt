@@ -1,8 +1,6 @@
-use Rattle.std.proofs.Common.{sym, ◌∙◌, arith}
-use Rattle.scan.specs.Bytes.{is_blank}
+use Rattle.std.proofs.Common.{sym, arith}
 use Rattle.declarations.specs.Answers.{numbered_names}
 use Rattle.declarations.proofs.Pieces.{piece_end, piece_blanks, piece_comment, piece_declaration, piece_unread}
-use Rattle.declarations.proofs.Stages.{first_at}
 use Rattle.declarations.proofs.items.item_at.Goals as goal
 
 pub returns-then-at-text : goal.returns-then-at-text
@@ -10,26 +8,22 @@ returns-then-at-text c =
     let text = c.args.text.now in
     piece_end text (numbered_names text c.args.entries.now) c.args.at c.if-at-text.true
 
-pub returns-then-is_blank : goal.returns-then-is_blank
-returns-then-is_blank c =
+pub returns-then-blank_at : goal.returns-then-blank_at
+returns-then-blank_at c =
     let text = c.args.text.now in
-    let blank = first_at is_blank text c.args.at c.if-at-text.false ∙ sym c.is_blank.ensures ∙ c.if-is_blank.true in
-    piece_blanks text (numbered_names text c.args.entries.now) c.args.at c.skip_blanks-end.result blank c.skip_blanks-end.ensures.behind c.skip_blanks-end.ensures.forward (c.skip_blanks-end.ensures.inside (omega arith))
+    piece_blanks text (numbered_names text c.args.entries.now) c.args.at c.skip_blanks.result (sym c.if-blank_at.ensures) c.skip_blanks.ensures.behind c.skip_blanks.ensures.forward (c.skip_blanks.ensures.inside (omega arith))
 
 pub returns-in-Some : goal.returns-in-Some
 returns-in-Some c =
     let text = c.args.text.now in
-    let black = first_at is_blank text c.args.at c.if-at-text.false ∙ sym c.is_blank.ensures ∙ c.if-is_blank.false in
-    piece_comment text (numbered_names text c.args.entries.now) c.args.at c.if-at-text.false black c.in-Some.end c.in-Some.ensures
+    piece_comment text (numbered_names text c.args.entries.now) c.args.at c.if-at-text.false (sym c.if-blank_at.ensures) c.in-Some.end c.in-Some.ensures
 
 pub returns-in-Some-declaration_at : goal.returns-in-Some-declaration_at
 returns-in-Some-declaration_at c =
     let text = c.args.text.now in
-    let black = first_at is_blank text c.args.at c.if-at-text.false ∙ sym c.is_blank.ensures ∙ c.if-is_blank.false in
-    piece_declaration text (numbered_names text c.args.entries.now) c.args.at c.if-at-text.false black c.in-Some-declaration_at.told c.in_default.ensures c.in-Some-declaration_at.ensures
+    piece_declaration text (numbered_names text c.args.entries.now) c.args.at c.if-at-text.false (sym c.if-blank_at.ensures) c.in-Some-declaration_at.told c.in_default.ensures c.in-Some-declaration_at.ensures
 
 pub returns-in-None : goal.returns-in-None
 returns-in-None c =
     let text = c.args.text.now in
-    let black = first_at is_blank text c.args.at c.if-at-text.false ∙ sym c.is_blank.ensures ∙ c.if-is_blank.false in
-    piece_unread text (numbered_names text c.args.entries.now) c.args.at c.if-at-text.false black c.in_default.ensures c.in-None.ensures
+    piece_unread text (numbered_names text c.args.entries.now) c.args.at c.if-at-text.false (sym c.if-blank_at.ensures) c.in_default.ensures c.in-None.ensures

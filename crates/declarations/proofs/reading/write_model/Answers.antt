@@ -1,19 +1,15 @@
+use Rattle.std.proofs.Common.{sym, ◌∙◌, rules}
 use Rattle.declarations.specs.Answers.{numbered_names}
-use Rattle.declarations.proofs.Heads.{model_past, model_none, model_some}
+use Rattle.declarations.proofs.Heads.{model_none, model_some}
 use Rattle.declarations.proofs.reading.write_model.Goals as goal
 
-pub returns-then-used-nodes : goal.returns-then-used-nodes
-returns-then-used-nodes c =
+pub returns-then-is_some : goal.returns-then-is_some
+returns-then-is_some c =
     let text = c.args.text.now in
-    model_past text (numbered_names text c.args.entries.now) c.args.at c.args.nodes.now c.args.used c.if-used-nodes.true
+    let some = model_some text (numbered_names text c.args.entries.now) c.args.at c.new-model.result c.declaration_at.result c.declaration.result c.declaration.new.model (sym c.is_some.ensures ∙ c.if-is_some.true) c.declaration_at.ensures c.declaration.ensures.read in
+    search (rules, some)
 
-pub returns-in-Some : goal.returns-in-Some
-returns-in-Some c =
+pub returns-else-is_some : goal.returns-else-is_some
+returns-else-is_some c =
     let text = c.args.text.now in
-    let there = c.in-Some.ensures in
-    model_some text (numbered_names text c.args.entries.now) c.args.at c.args.nodes.now c.args.used c.declaration.result c.declaration.new.nodes there.0 there.1 there.2 c.declaration.ensures
-
-pub returns-in_default : goal.returns-in_default
-returns-in_default c =
-    let text = c.args.text.now in
-    model_none text (numbered_names text c.args.entries.now) c.args.at c.args.nodes.now c.args.used c.in_default.ensures
+    model_none text (numbered_names text c.args.entries.now) c.args.at c.args.nodes.now c.args.used c.declaration_at.result (sym c.is_some.ensures ∙ c.if-is_some.false) c.declaration_at.ensures
