@@ -10,6 +10,7 @@ use super::elements::{CORRECTION, HOURS, LOCK, SHEET, SHIFT};
 use engine::{Content, Engine, Letter};
 
 // A state says what may still come, whatever element is open.
+// Kept: the engine interface hands a state over as a word of 64 bits; an enum would spell these numbers twice more.
 
 // All of a sheet.
 const WHOLE: u64 = 1;

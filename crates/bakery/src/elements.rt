@@ -1,4 +1,5 @@
 // The elements of the agreement by their numbers.
+// Kept: engines and sheets take an element by its number, a byte; an enum would be turned into one at each use.
 
 pub const SHEET: u8 = 1;
 

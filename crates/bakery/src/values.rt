@@ -7,6 +7,7 @@ use super::elements::HOURS;
 use engine::Engine;
 
 // A state says what may still come.
+// Kept: the engine interface hands a state over as a word of 64 bits; an enum would spell these numbers twice more.
 
 // All of the hours.
 const WHOLE: u64 = 1;

@@ -1,9 +1,14 @@
 -- Advancing a state by a word, letter by letter, answers for the derivative by the whole word.
-use Rattle.std.proofs.Common.{◌≡◌, ℕ, Bool, true, false, List, [], ◌∷◌, ◌++◌, Some, None, Option, sym, subst, append_assoc, append-nil, arith}
+use Rattle.std.proofs.Common.{◌≡◌, ℕ, Bool, true, false, List, [], ◌∷◌, ◌++◌, Some, None, Option, MatchOption, sym, subst, append_assoc, append-nil, arith}
 use Rattle.engine.specs.Languages.{Language, Empty, Same, residue, Answers, Advanced, Decides}
 
 some_inj : {a b : ℕ} → ◌≡◌ {A = Option ℕ} (Some a) (Some b) → a ≡ b
 some_inj e = cc
+
+-- An answer that decides a statement decides whatever holds exactly when that does.
+pub decides_iff : (b : Bool) {P Q : Type 0} → (P → Q) × (Q → P) → Decides b P → Decides b Q
+decides_iff true (there, back) h = there h
+decides_iff false (there, back) h = λ q. h (back q)
 
 module _ {A : Type 0} (rest : ℕ → Language A) where
   -- The state reached by a word has as its rest the derivative by that word.
@@ -44,7 +49,8 @@ module _ {A : Type 0} (rest : ℕ → Language A) where
   untold s [] e h = let z : ◌≡◌ {A = ℕ} 0 1 = cc in omega arith
   untold s (a ∷ w) never h = never [] (subst (rest s) (sym (append-nil (a ∷ w))) h)
 
--- An answer that decides a statement decides whatever holds exactly when that does.
-pub decides_iff : (b : Bool) {P Q : Type 0} → (P → Q) × (Q → P) → Decides b P → Decides b Q
-decides_iff true (there, back) h = there h
-decides_iff false (there, back) h = λ q. h (back q)
+  -- Whether the whole word lies in the rest, by a test of the state reached that is false where there is none.
+  pub told_by : (s : ℕ) (w : List A) (r : Option ℕ) (b : Bool) (P : ℕ → Type 0) → Advanced rest s w r → MatchOption r (b ≡ false) P →
+      ((t : ℕ) → P t → Decides b (rest t [])) → Decides b (rest s w)
+  told_by s w None b P got none ends = subst (λ x. Decides x (rest s w)) (sym none) (untold s w got)
+  told_by s w (Some t) b P got p ends = decides_iff b (told s t w got) (ends t p)

@@ -10,10 +10,7 @@ pub fn advance<E: Engine>(engine: &E, number: u8, state: u64, word: &[E::Letter]
 {
     let mut reached = state;
     for letter in word {
-        match engine.step(number, reached, *letter) {
-            Some(next) => reached = next,
-            None => return None,
-        }
+        reached = engine.step(number, reached, *letter)?;
     }
     Some(reached)
 }
@@ -25,8 +22,5 @@ pub fn match_word<E: Engine>(engine: &E, number: u8, word: &[E::Letter]) -> bool
     let Some(first) = engine.open(number) else {
         return false;
     };
-    match advance(engine, number, first, word) {
-        Some(last) => engine.ends(number, last),
-        None => false,
-    }
+    advance(engine, number, first, word).is_some_and(|last| engine.ends(number, last))
 }

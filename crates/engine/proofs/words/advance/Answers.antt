@@ -7,8 +7,8 @@ use Rattle.engine.proofs.words.advance.Goals as goal
 pub loop-letter-init : goal.loop-letter-init
 loop-letter-init g c = (omega arith, refl)
 
-pub returns-in-None : goal.returns-in-None
-returns-in-None g c =
+pub returns-in_err-reached : goal.returns-in_err-reached
+returns-in_err-reached g c =
     let xs = c.args.word.now in
     let i = c.loop-letter.letter-index in
     let x = c.letter-item.result in
@@ -17,8 +17,9 @@ returns-in-None g c =
     ap (λ y. take i xs ++ (y ∷ drop (i + 1) xs)) c.letter-item.is
     ∙ ap (λ l. take i xs ++ l) (sym (drop_more xs i x c.loop-letter-test.true))
     ∙ take-append-drop i xs in
-    subst (λ w. Advanced rest c.args.state w None) whole
-    (stuck rest c.args.state c.loop-letter.reached (take i xs) (drop (i + 1) xs) x c.loop-letter.invariant.1 c.in-None.ensures)
+    subst (Advanced rest c.args.state xs) (sym c.from_residual.ensures)
+    (subst (λ w. Advanced rest c.args.state w None) whole
+    (stuck rest c.args.state c.loop-letter.reached (take i xs) (drop (i + 1) xs) x c.loop-letter.invariant.1 c.in_err-reached.ensures))
 
 pub loop-letter-preserved : goal.loop-letter-preserved
 loop-letter-preserved g c =
@@ -29,8 +30,8 @@ loop-letter-preserved g c =
     let pushed : take i xs ++ (x ∷ []) ≡ take (i + 1) xs =
     ap (λ y. take i xs ++ (y ∷ [])) c.letter-item.is ∙ sym (take_more xs i x c.loop-letter-test.true) in (
       omega arith,
-      subst (λ w. Advanced rest c.args.state w (Some c.in-Some.next)) pushed
-          (further rest c.args.state c.loop-letter.reached c.in-Some.next (take i xs) x c.loop-letter.invariant.1 c.in-Some.ensures),
+      subst (λ w. Advanced rest c.args.state w (Some c.in_ok-reached.reached)) pushed
+          (further rest c.args.state c.loop-letter.reached c.in_ok-reached.reached (take i xs) x c.loop-letter.invariant.1 c.in_ok-reached.ensures),
     )
 
 pub returns : goal.returns
