@@ -15,16 +15,16 @@ use sealed::Sealed;
 pub struct Indexed<'n, 'm, 'r, 'a, 'c> {
     sealed: Sealed<'n, 'm>,
     table: ContentTable<'n, 'm, 'r, 'a, 'c>,
-    ghost nodes: { ∥ table.table.nodes.now ≡ sealed.nodes.now ∥₁ },
-    ghost models: { ∥ table.table.models.now ≡ sealed.models.now ∥₁ },
+    ghost nodes: { ∥ table.table.tables.nodes.now ≡ sealed.engine.tables.nodes.now ∥₁ },
+    ghost models: { ∥ table.table.tables.models.now ≡ sealed.engine.tables.models.now ∥₁ },
 }
 
 impl Engine for Indexed<'_, '_, '_, '_, '_> {
     type Letter = Letter;
 
-    ghost language = { λ self. ModelWords StandsFor self.sealed.nodes.now self.sealed.models.now };
+    ghost language = { λ self. ModelWords StandsFor self.sealed.engine.tables.nodes.now self.sealed.engine.tables.models.now };
 
-    ghost rest = { λ self. ModelRest StandsFor self.sealed.nodes.now self.sealed.models.now };
+    ghost rest = { λ self. ModelRest StandsFor self.sealed.engine.tables.nodes.now self.sealed.engine.tables.models.now };
 
     fn open(&self, number: u8) -> Option<u64> {
         self.table.open(number)

@@ -1,59 +1,71 @@
 -- The entries of the tables, one by one.
-use Rattle.std.proofs.Common.{◌≡◌, ℕ, suc, ◌+◌, ◌*◌, ◌/◌, ◌<◌, ◌≤◌, Bool, ◌⊎◌, List, [], ◌∷◌, ◌++◌, length, get_or, take, drop, sym, refl, ap, ◌∙◌, subst, inl, inr, arith, length-append, take-append-drop}
+use Rattle.std.proofs.Common.{◌≡◌, ℕ, zero, suc, ◌+◌, ◌*◌, ◌/◌, ◌%◌, ◌<◌, ◌≤◌, Bool, ◌≢◌, ◌⊎◌, List, [], ◌∷◌, length, get_or, set, map, filter, slice_get, Option, Some, None, unwrap_or, MatchOption, sym, refl, ap, ◌∙◌, subst, inl, inr, arith, below_more, get_or-set_other, get_or-set_same}
 use native.Mathlib.Decide.{dec_le}
 use lib.Bits.{bit_or}
 use lib.ListN.{get_or-eq_default}
-use Rattle.std.proofs.lemmas.List.{take_more, drop_more}
 use Rattle.derivative.specs.Derivation.{derivation, after_state, ends_in}
 use Rattle.derivative.specs.declared.derive.Derived.{Derived}
 use Rattle.models.specs.Expressions.{Exp}
-use Rattle.models.specs.Folds.{value}
+use Rattle.models.specs.Folds.{Folded, value}
 use Rattle.models.specs.Readers.{atoms_of, Numbered}
 use Rattle.bits.specs.Sets.{guarded, singleton}
-use Rattle.models.specs.Tables.{Coded}
+use Rattle.models.specs.Tables.{Coded, NodesOf}
 use Rattle.models.specs.declared.node.Model.{Model}
 use Rattle.models.specs.declared.node.Node.{Node}
 use Rattle.models.specs.declared.node.Node.TheVariants as node
-use Rattle.models.proofs.Numbering.{atoms_of_append, numbered_append, numbered_in, numbered_one, no_atom}
-use Rattle.positions.specs.Following.{everything, row, AtomAt, Rows, Atoms, Followed, Blank, Placed, Spare}
+use Rattle.models.proofs.ModelTables.{coded_one}
+use Rattle.models.proofs.Numbering.{numbered_in, numbered_one}
+use Rattle.positions.specs.Following.{everything, row, is_atom, AtomAt, RowAt, Rows, Atoms, Followed, Blank, Placed, Spare}
+
+-- One place more is written.
+pub written_more : {A : Type 0} (P : ℕ → A → Type 0) (d : A) (xs : List A) (i : ℕ) (x : A) → i < length xs → ((k : ℕ) → k < i → P k (get_or xs k d)) → P i x → (k : ℕ) → k < i + 1 → P k (get_or (set xs i x) k d)
+written_more P d xs i x lt before here =
+    below_more _ _
+    (λ k h. let ne : k ≢ i = omega arith in subst (P k) (sym (get_or-set_other xs i k x d ne)) (before k h))
+    (subst (P i) (sym (get_or-set_same xs i x d lt)) here)
 
 -- A row from what was computed for it.
-pub row_made : {A : Type 0} (e : Exp A) (p from : ℕ) (d : Derived) (reached : ℕ) (t : Bool) (w : ℕ) → from ≡ singleton p → d ≡ value (derivation from everything) 0 e → reached ≡ after_state from d → t ≡ ends_in from d → w ≡ guarded t 1 → bit_or reached w ≡ row e p
-row_made e p from d reached t w is known got ended bit =
-    let made : ℕ → Derived → ℕ = λ s v. bit_or (after_state s v) (guarded (ends_in s v) 1) in
-    ap (λ r. bit_or r w) got
-    ∙ ap (λ b. bit_or (after_state from d) b) (bit ∙ ap (λ u. guarded u 1) ended)
-    ∙ ap (made from) known
-    ∙ ap (λ s. made s (value (derivation s everything) 0 e)) is
+module _ {A : Type 0} (nodes : List (Node A)) (models : List Model) (i : ℕ) (slice : List (Node A)) (of : NodesOf nodes models (i / 64 + 1) slice) where
+  pub row_found : (from : ℕ) → from ≡ singleton (i % 64) → (o : Option Derived) → Folded (derivation from everything) 64 slice o → (entry : ℕ) → MatchOption o (entry ≡ 0) (λ d. entry ≡ bit_or (after_state from d) (guarded (ends_in from d) 1)) → RowAt nodes models i entry
+  row_found from is None never entry made = record {
+    coded = λ e h. absurd (never e ((of e).1 h));
+    none = λ h. made;
+  }
+  row_found from is (Some d) (e, codes, known) entry made =
+      let made_of : ℕ → Derived → ℕ = λ s v. bit_or (after_state s v) (guarded (ends_in s v) 1) in
+      let coded = (of e).0 codes in
+      let entry_is : entry ≡ row e (i % 64) = made ∙ ap (made_of from) known ∙ ap (λ s. made_of s (value (derivation s everything) 0 e)) is in
+      record {
+        coded = λ f h. entry_is ∙ ap (λ g. row g (i % 64)) (coded_one nodes models (i / 64 + 1) e f coded h);
+        none = λ h. absurd (h e coded);
+      }
+
+-- The atoms among the nodes, in order, are the nodes that are atoms.
+atoms_filtered : {A : Type 0} (nodes : List (Node A)) → filter is_atom nodes ≡ map node.Atom (atoms_of nodes)
+atoms_filtered [] = refl
+atoms_filtered (node.Unused ∷ nodes) = atoms_filtered nodes
+atoms_filtered (node.Empty ∷ nodes) = atoms_filtered nodes
+atoms_filtered (node.Atom a ∷ nodes) = ap (λ xs. node.Atom a ∷ xs) (atoms_filtered nodes)
+atoms_filtered (node.Seq ∷ nodes) = atoms_filtered nodes
+atoms_filtered (node.Alt ∷ nodes) = atoms_filtered nodes
+atoms_filtered (node.Star ∷ nodes) = atoms_filtered nodes
+atoms_filtered (node.Plus ∷ nodes) = atoms_filtered nodes
+atoms_filtered (node.Opt ∷ nodes) = atoms_filtered nodes
+
+-- An atom at a place has the next number; past the end there is none.
+get_numbered : {A : Type 0} (xs : List A) (b k : ℕ) (x : Node A) → slice_get (map node.Atom xs) k ≡ Some x → (a : A) × (x ≡ node.Atom a) × Numbered xs b (b + k + 1) a
+get_numbered [] b k x h = cc
+get_numbered (a ∷ xs) b zero x h = let e : x ≡ node.Atom a = cc in (a, e, inl (omega arith, refl))
+get_numbered (c ∷ xs) b (suc k) x h =
+    let (a, e, n) = get_numbered xs (b + 1) k x h in
+    (a, e, inr (subst (λ m. Numbered xs (b + 1) m a) (omega arith) n))
+
+get_past : {A : Type 0} (xs : List A) (k : ℕ) → slice_get (map node.Atom xs) k ≡ None → length xs ≤ k
+get_past [] k h = omega arith
+get_past (a ∷ xs) zero h = cc
+get_past (a ∷ xs) (suc k) h = let le = get_past xs k h in omega arith
 
 module _ {A : Type 0} (nodes : List (Node A)) where
-  met_more : (i : ℕ) (x : Node A) → i < length nodes → x ≡ get_or nodes i x → atoms_of (take (i + 1) nodes) ≡ atoms_of (take i nodes) ++ atoms_of (x ∷ [])
-  met_more i x lt is =
-      ap atoms_of (take_more nodes i x lt ∙ ap (λ y. take i nodes ++ (y ∷ [])) (sym is)) ∙ atoms_of_append (take i nodes) (x ∷ [])
-
-  -- Another node changes no count, an atom raises it by one.
-  pub met_same : (i : ℕ) (x : Node A) → i < length nodes → x ≡ get_or nodes i x → ((a : A) → x ≡ node.Atom a → ⊥) → length (atoms_of (take (i + 1) nodes)) ≡ length (atoms_of (take i nodes))
-  met_same i x lt is other =
-      let e = ap length (met_more i x lt is) ∙ length-append (atoms_of (take i nodes)) (atoms_of (x ∷ [])) in
-      let z : length (atoms_of (x ∷ [])) ≡ 0 = ap (λ cs. length (cs ++ [])) (no_atom x other) in
-      omega arith
-
-  pub met_atom : (i : ℕ) (x : Node A) (a : A) → i < length nodes → x ≡ get_or nodes i x → x ≡ node.Atom a → length (atoms_of (take (i + 1) nodes)) ≡ length (atoms_of (take i nodes)) + 1
-  met_atom i x a lt is at =
-      let e = ap length (met_more i x lt is) ∙ length-append (atoms_of (take i nodes)) (atoms_of (x ∷ [])) in
-      let o : length (atoms_of (x ∷ [])) ≡ 1 = ap (λ y. length (atoms_of (y ∷ []))) at in
-      omega arith
-
-  -- The atom met is the one with the next number.
-  pub met_number : (i : ℕ) (x : Node A) (a : A) → i < length nodes → x ≡ get_or nodes i x → x ≡ node.Atom a → Numbered (atoms_of nodes) 0 (length (atoms_of (take i nodes)) + 1) a
-  met_number i x a lt is at =
-      let whole : atoms_of nodes ≡ atoms_of (take i nodes) ++ (a ∷ atoms_of (drop (i + 1) nodes)) =
-      ap atoms_of (sym (take-append-drop i nodes))
-      ∙ ap (λ ns. atoms_of (take i nodes ++ ns)) (drop_more nodes i x lt ∙ ap (λ y. y ∷ drop (i + 1) nodes) (sym is ∙ at))
-      ∙ atoms_of_append (take i nodes) (node.Atom a ∷ drop (i + 1) nodes) in
-      subst (λ cs. Numbered cs 0 (length (atoms_of (take i nodes)) + 1) a) (sym whole)
-      ((numbered_append (atoms_of (take i nodes)) (a ∷ atoms_of (drop (i + 1) nodes)) 0 _ a).1 (inr (inl (omega arith, refl))))
-
   pub atom_found : (n : ℕ) (x : Node A) (a : A) → x ≡ node.Atom a → Numbered (atoms_of nodes) 0 n a → AtomAt nodes n x
   atom_found n x a is here = record {
     found = λ c h. is ∙ ap node.Atom (numbered_one (atoms_of nodes) 0 n a c here h);
@@ -65,6 +77,14 @@ module _ {A : Type 0} (nodes : List (Node A)) where
     found = λ c h. let k = numbered_in (atoms_of nodes) 0 n c h in absurd (omega arith);
     none = λ h. refl;
   }
+
+  pub atom_at : (k : ℕ) (r : Option (Node A)) → r ≡ slice_get (filter is_atom nodes) k → AtomAt nodes (k + 1) (unwrap_or r node.Unused)
+  atom_at k None is =
+      let le = get_past (atoms_of nodes) k (ap (λ xs. slice_get xs k) (sym (atoms_filtered nodes)) ∙ sym is) in
+      atom_missing (k + 1) (inl (omega arith))
+  atom_at k (Some x) is =
+      let (a, e, n) = get_numbered (atoms_of nodes) 0 k x (ap (λ xs. slice_get xs k) (sym (atoms_filtered nodes)) ∙ sym is) in
+      atom_found (k + 1) x a e (subst (λ m. Numbered (atoms_of nodes) 0 m a) (omega arith) n)
 
 -- From places that were written one by one to what a follow table keeps.
 module _ {A : Type 0} (nodes : List (Node A)) (models : List Model) where

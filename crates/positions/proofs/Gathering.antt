@@ -1,67 +1,21 @@
--- The lowest number in a set stands at its trailing zeros, and a walk that takes it out each time gathers
--- what every number of the set gives.
-use Rattle.std.proofs.Common.{◌≡◌, ℕ, zero, suc, ◌+◌, ◌/◌, ◌%◌, ◌^◌, ◌<◌, ◌≢◌, ◌⊎◌, sym, refl, ap, ◌∙◌, subst, ap₂, inl, inr, pow-suc, div-one, arith}
-use native.Mathlib.Decide.{dec_le, ℕ_discrete}
-use lib.Bits.{bit_and, bit_xor, xor_shr, xor_mod, xor_zero_r, xor_add_and}
-use lib.Count.{count_trailing_zeros, under}
-use Rattle.std.proofs.lemmas.Nat.{pow_pos, shr-shr, div_below}
-use Rattle.bits.specs.Sets.{Has}
-use Rattle.bits.proofs.Bits.{has_below, has_own, has_power, has_none, and_has}
+-- A walk that takes each number out of a set gathers what every number of the set gives.
+use Rattle.std.proofs.Common.{◌≡◌, ℕ, true, ◌⊎◌, None, Some, sym, refl, ◌∙◌, subst, inl, inr, eq-eqb, eqb-true}
+use native.Mathlib.Decide.{ℕ_discrete}
+use borrow.Author.Tests.{both_ways}
+use Rattle.bits.specs.Sets.{Has, has, TakesLowest}
+use Rattle.bits.proofs.Bits.{has_none}
 use Rattle.models.proofs.Derivation.{Iff}
 
-digit : (n : ℕ) → (n % 2 ≡ 0) ⊎ (n % 2 ≡ 1)
-digit n = elim (dec_le (n % 2) 0) [ yes h ↦ inl (omega arith) | no h ↦ inr (omega arith) ]
-
--- Taking out a number that is there.
-pub out_has : (s p n : ℕ) → Has s p → Has (bit_xor s (2 ^ p)) n → Has s n × (n ≡ p → ⊥)
-out_has s p n own h =
-    let bits = sym (ap (λ x. x % 2) (xor_shr s (2 ^ p) n) ∙ xor_mod (s / 2 ^ n) (2 ^ p / 2 ^ n) 1) ∙ h in
-    elim (digit (2 ^ p / 2 ^ n)) [
-      | inl z ↦ (
-        sym (xor_zero_r (s / 2 ^ n % 2)) ∙ ap (λ y. bit_xor (s / 2 ^ n % 2) y) (sym z) ∙ bits,
-        λ e. let k = subst (λ m. Has (2 ^ p) m) (sym e) (has_own p) in omega arith,
-      )
-      | inr o ↦
-          let e = has_power p n o in
-          let k : s / 2 ^ n % 2 ≡ 1 = subst (λ m. Has s m) (sym e) own in
-          let z = sym (ap₂ bit_xor k o) ∙ bits in
-          absurd (omega arith)
-    ]
-
-pub has_out : (s p n : ℕ) → Has s n → (n ≡ p → ⊥) → Has (bit_xor s (2 ^ p)) n
-has_out s p n h ne =
-    elim (digit (2 ^ p / 2 ^ n)) [
-      | inl z ↦
-          ap (λ x. x % 2) (xor_shr s (2 ^ p) n) ∙ xor_mod (s / 2 ^ n) (2 ^ p / 2 ^ n) 1 ∙ ap (λ y. bit_xor (s / 2 ^ n % 2) y) z ∙ xor_zero_r (s / 2 ^ n % 2) ∙ h
-      | inr o ↦ absurd (ne (has_power p n o))
-    ]
-
-pub out_less : (s p : ℕ) → Has s p → bit_xor s (2 ^ p) < s
-out_less s p h =
-    let sum = xor_add_and s (2 ^ p) in
-    let both = has_below (bit_and s (2 ^ p)) p (and_has s (2 ^ p) p h (has_own p)) in
-    let some = pow_pos p in
-    omega arith
-
--- The lowest number of a set that is not empty.
-pub lowest : (k s : ℕ) → s < 2 ^ k → s ≢ 0 → (count_trailing_zeros k s < k) × Has s (count_trailing_zeros k s)
-unfolding count_trailing_zeros
-lowest zero s fits ne = absurd (ne (omega arith))
-lowest (suc k) s fits ne =
-    elim (digit s) [
-      | inl z ↦
-          let half : s / 2 < 2 ^ k = div_below s 2 (2 ^ k) (omega arith) (subst (λ x. s < x) (pow-suc 2 k) fits) in
-          let low = lowest k (s / 2) half (λ e. ne (omega arith)) in
-          let t = count_trailing_zeros k (s / 2) in
-          let at : under (s % 2) t ≡ 1 + t = ap (λ d. under d t) z ∙ omega arith in
-          let has : Has s (1 + t) = ap (λ x. x % 2) (sym (shr-shr s 1 t)) ∙ low.1 in
-          (subst (λ x. x < suc k) (sym at) (omega (arith, low.0)), subst (Has s) (sym at) has)
-      | inr o ↦
-          let t = count_trailing_zeros k (s / 2) in
-          let at : under (s % 2) t ≡ 0 = ap (λ d. under d t) o in
-          let has : Has s 0 = ap (λ x. x % 2) (div-one s) ∙ o in
-          (subst (λ x. x < suc k) (sym at) (omega arith), subst (Has s) (sym at) has)
-    ]
+-- Taking out the lowest number leaves the others.
+taken : (left left' p : ℕ) → TakesLowest left (Some p) left' → Has left p × ((n : ℕ) → Has left' n → Has left n × (n ≡ p → ⊥)) × ((n : ℕ) → Has left n → (n ≡ p → ⊥) → Has left' n)
+taken left left' p t = (
+  eqb-true _ 1 t.1,
+  λ n h.
+      let there : has left' n ≡ true = eq-eqb _ 1 h in
+      let other : n ≡ p → ⊥ = λ e. both_ways (has left' p) t.3 (subst (λ m. has left' m ≡ true) e there) in
+      (eqb-true _ 1 (sym (t.4 n other) ∙ there), other),
+  λ n h ne. eqb-true _ 1 (t.4 n ne ∙ eq-eqb _ 1 h),
+)
 
 -- What the numbers that were taken out so far gave.
 abbrev pub Gathered : (ℕ → ℕ → Type 0) → ℕ → ℕ → ℕ → Type 0
@@ -69,26 +23,24 @@ Gathered gives set left got =
     ((n : ℕ) → Has left n → Has set n) × ((n : ℕ) → Iff (Has got n) ((p : ℕ) × (Has set p × (Has left p → ⊥)) × gives p n))
 
 module _ (gives : ℕ → ℕ → Type 0) (set : ℕ) where
-  pub gathered_none : Gathered gives set set 0
-  gathered_none = ((λ n h. h), λ n. (λ h. absurd (has_none n h), λ h. absurd (h.1.1 h.1.0)))
+  pub gathered_more : (left left' p got got' : ℕ) → TakesLowest left (Some p) left' → Gathered gives set left got → ((n : ℕ) → Iff (Has got' n) (Has got n ⊎ gives p n)) → Gathered gives set left' got'
+  gathered_more left left' p got got' t so_far step =
+      let (here, out, kept) = taken left left' p t in (
+        λ n h. so_far.0 n (out n h).0,
+        λ n. (
+          λ h. elim ((step n).0 h) [
+            | inl k ↦ let (q, known, g) = (so_far.1 n).0 k in (q, (known.0, λ m. known.1 (out q m).0), g)
+            | inr g ↦ (p, (so_far.0 p here, λ m. (out p m).1 refl), g)
+          ],
+          λ h. let (q, known, g) = h in elim (ℕ_discrete q p) [
+            | yes e ↦ (step n).1 (inr (subst (λ r. gives r n) e g))
+            | no ne ↦ (step n).1 (inl ((so_far.1 n).1 (q, (known.0, λ m. known.1 (kept q m ne)), g)))
+          ],
+        ),
+      )
 
-  pub gathered_more : (left p got got' : ℕ) → Has left p → Gathered gives set left got → ((n : ℕ) → Iff (Has got' n) (Has got n ⊎ gives p n)) → Gathered gives set (bit_xor left (2 ^ p)) got'
-  gathered_more left p got got' here so_far step = (
-    λ n h. so_far.0 n (out_has left p n here h).0,
-    λ n. (
-      λ h. elim ((step n).0 h) [
-        | inl k ↦ let (q, known, g) = (so_far.1 n).0 k in (q, (known.0, λ m. known.1 (out_has left p q here m).0), g)
-        | inr g ↦ (p, (so_far.0 p here, λ m. (out_has left p p here m).1 refl), g)
-      ],
-      λ h. let (q, known, g) = h in elim (ℕ_discrete q p) [
-        | yes e ↦ (step n).1 (inr (subst (λ r. gives r n) e g))
-        | no ne ↦ (step n).1 (inl ((so_far.1 n).1 (q, (known.0, λ m. known.1 (has_out left p q m ne)), g)))
-      ],
-    ),
-  )
-
-  pub gathered_all : (left got : ℕ) → left ≡ 0 → Gathered gives set left got → (n : ℕ) → Iff (Has got n) ((p : ℕ) × Has set p × gives p n)
-  gathered_all left got none so_far n = (
+  pub gathered_all : (left left' got : ℕ) → TakesLowest left None left' → Gathered gives set left got → (n : ℕ) → Iff (Has got n) ((p : ℕ) × Has set p × gives p n)
+  gathered_all left left' got t so_far n = (
     λ h. let (q, known, g) = (so_far.1 n).0 h in (q, known.0, g),
-    λ h. (so_far.1 n).1 (h.0, (h.1, λ m. has_none h.0 (subst (λ s. Has s h.0) none m)), h.2),
+    λ h. (so_far.1 n).1 (h.0, (h.1, λ m. has_none h.0 (subst (λ s. Has s h.0) t.0 m)), h.2),
   )

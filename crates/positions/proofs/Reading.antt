@@ -1,5 +1,7 @@
 -- Reading the follow table: its rows and atoms give the words that go on with a letter, and those that end.
-use Rattle.std.proofs.Common.{◌≡◌, ℕ, zero, suc, ◌+◌, ◌-◌, ◌*◌, ◌/◌, ◌%◌, ◌^◌, ◌<◌, ◌≤◌, Bool, true, false, ◌&&◌, eqb, ◌≢◌, ◌⊎◌, List, [], ◌∷◌, get_or, Some, sym, refl, ap, ◌∙◌, subst, inl, inr, add-zero, div-one, arith, eq-eqb, eqb-true}
+use Rattle.std.proofs.Common.{◌≡◌, ℕ, zero, suc, ◌+◌, ◌-◌, ◌*◌, ◌/◌, ◌%◌, ◌^◌, ◌<◌, ◌≤◌, Bool, true, false, ◌&&◌, eqb, ◌≢◌, ◌⊎◌, List, [], ◌∷◌, get_or, Some, None, Option, MatchOption, not, sym, refl, ap, ◌∙◌, subst, inl, inr, add-zero, div-one, arith, eq-eqb, eqb-true}
+use borrow.Author.Tests.{eqb-false}
+use Rattle.std.specs.Bool.{then_some}
 use Rattle.engine.specs.Languages.{Empty, Answers, Decides, residue}
 use Rattle.models.specs.Expressions.{Exp, atoms, Words}
 use Rattle.models.specs.Folds.{code}
@@ -19,7 +21,7 @@ use Rattle.derivative.specs.Derivation.{member, after_state, ends_in}
 use Rattle.derivative.proofs.Knowing.{iff_member, iff_and, iff_or, iff_then, nullable_computed, ends_computed}
 use Rattle.derivative.proofs.Stepping.{ends_decided, begin_some, step_none, step_some}
 use Rattle.positions.specs.Following.{everything, row, Followed, Blank, Placed, Spare}
-use Rattle.positions.specs.Walks.{Reads, Kept, Union}
+use Rattle.positions.specs.Walks.{Based, Reads, Kept, Union}
 use Rattle.positions.proofs.Splitting.{one, single_is, first_same, Tells, First, Next, Split, split}
 
 bit_zero : (u : ℕ) → Iff (eqb (u % 2) 1 ≡ true) (Has u 0)
@@ -223,7 +225,7 @@ module _ {A X : Type 0} (stands : A → X → Type 0) (nodes : List (Node A)) (m
   no_union never s u n fits union h =
       let (p, sp, r) = (union n).0 h in has_none n (subst (λ t. Has t n) (zero_row never p (has_small s p fits sp)) r)
 
-  pub ends_answer : (s u : ℕ) → s < 2 ^ 64 → Union rows base s u → Decides (eqb (u % 2) 1) (ModelRest stands nodes models number s [])
+  ends_answer : (s u : ℕ) → s < 2 ^ 64 → Union rows base s u → Decides (eqb (u % 2) 1) (ModelRest stands nodes models number s [])
   ends_answer s u fits union =
       elim (coded_or_not nodes models number) [
         | inl (e, c) ↦ ends_decided stands nodes models number e c s (eqb (u % 2) 1) (iff_then (bit_zero u) (end_told stands nodes models rows [] number base from_one starts e c followed s u fits union))
@@ -235,22 +237,30 @@ module _ {A X : Type 0} (stands : A → X → Type 0) (nodes : List (Node A)) (m
       undecided false not_so never = λ h. never h.0 h.1
 
   module _ (alive : (a : A) → (x : X) × stands a x) where
-    pub open_none : get_or rows base 0 ≡ 0 → Empty (ModelWords stands nodes models number)
+    open_none : get_or rows base 0 ≡ 0 → Empty (ModelWords stands nodes models number)
     open_none none w h = begins stands nodes models rows [] number base from_one starts h.0 h.1 followed alive none
 
-    pub open_some : get_or rows base 0 ≢ 0 → Answers (ModelWords stands nodes models number) (ModelRest stands nodes models number) (Some 1)
+    open_some : get_or rows base 0 ≢ 0 → Answers (ModelWords stands nodes models number) (ModelRest stands nodes models number) (Some 1)
     open_some some =
         elim (coded_or_not nodes models number) [
           | inl (e, c) ↦ begin_some stands nodes models number e c alive
           | inr never ↦ absurd (some (ap (λ i. get_or rows i 0) (sym (add-zero base)) ∙ zero_row never 0 (omega arith)))
         ]
 
+    -- The engine opens where the row of the beginning is not empty.
+    pub open_answer : (r : Option ℕ) → r ≡ then_some (not (eqb (get_or rows base 0) 0)) 1 → Answers (ModelWords stands nodes models number) (ModelRest stands nodes models number) r
+    open_answer r is = subst (Answers (ModelWords stands nodes models number) (ModelRest stands nodes models number)) (sym is) (told (eqb (get_or rows base 0) 0) refl)
+      where
+        told : (t : Bool) → eqb (get_or rows base 0) 0 ≡ t → Answers (ModelWords stands nodes models number) (ModelRest stands nodes models number) (then_some (not t) 1)
+        told true e = open_none (eqb-true (get_or rows base 0) 0 e)
+        told false e = open_some (eqb-false (get_or rows base 0) 0 e)
+
     module _ (places : List (Node A)) (placed : Placed nodes models places) (spare : Spare nodes models places) (x : X) (s u k : ℕ) (fits : s < 2 ^ 64) (union : Union rows base s u) (kept : Kept stands places base x u k) where
-      pub step_nothing : k ≡ 0 → Empty (residue (ModelRest stands nodes models number s) (x ∷ []))
+      step_nothing : k ≡ 0 → Empty (residue (ModelRest stands nodes models number s) (x ∷ []))
       step_nothing none w h =
           step_none stands nodes models number h.0 h.1 x s k (step_told stands nodes models rows places number base from_one starts h.0 h.1 followed placed spare x s u k fits union kept) none w h
 
-      pub step_something : k < 2 ^ 64 → k ≢ 0 → Answers (residue (ModelRest stands nodes models number s) (x ∷ [])) (ModelRest stands nodes models number) (Some k)
+      step_something : k < 2 ^ 64 → k ≢ 0 → Answers (residue (ModelRest stands nodes models number s) (x ∷ [])) (ModelRest stands nodes models number) (Some k)
       step_something small some =
           elim (coded_or_not nodes models number) [
             | inl (e, c) ↦
@@ -260,3 +270,18 @@ module _ {A X : Type 0} (stands : A → X → Type 0) (nodes : List (Node A)) (m
                 small some
             | inr never ↦ let (n, h) = some_bit 64 k small some in absurd (no_union never s u n fits union ((kept n).0 h).0)
           ]
+
+      -- A step answers the atoms kept, where there are any.
+      pub step_answer : k < 2 ^ 64 → (r : Option ℕ) → r ≡ then_some (not (eqb k 0)) k → Answers (residue (ModelRest stands nodes models number s) (x ∷ [])) (ModelRest stands nodes models number) r
+      step_answer small r is = subst (Answers (residue (ModelRest stands nodes models number s) (x ∷ [])) (ModelRest stands nodes models number)) (sym is) (told (eqb k 0) refl)
+        where
+          told : (t : Bool) → eqb k 0 ≡ t → Answers (residue (ModelRest stands nodes models number s) (x ∷ [])) (ModelRest stands nodes models number) (then_some (not t) k)
+          told true e = step_nothing (eqb-true k 0 e)
+          told false e = step_something small (eqb-false k 0 e)
+
+-- A word may end by the rows of a number that has a record, and by no other.
+pub ends_found : {A X : Type 0} (stands : A → X → Type 0) (nodes : List (Node A)) (models : List Model) (rows : List ℕ) (number : ℕ) → Followed nodes models rows → Blank nodes models rows → (s : ℕ) → s < 2 ^ 64 → (o : Option ℕ) → Based models number o → (b : Bool) → MatchOption o (b ≡ false) (λ base. (u : ℕ) × Union rows base s u × (b ≡ eqb (u % 2) 1)) → Decides b (ModelRest stands nodes models number s [])
+ends_found stands nodes models rows number followed blank s fits None none b ended =
+    rw ended (λ h. let c = h.1 in elim none [ inl low ↦ absurd (omega (arith, c.from_one)) | inr high ↦ absurd (omega (arith, c.listed)) ])
+ends_found stands nodes models rows number followed blank s fits (Some base) based b (u, union, is) =
+    rw is (ends_answer stands nodes models rows number base based.0 based.2 followed blank s u fits union)

@@ -1,5 +1,5 @@
 -- Follow sets as rows of a table.
-use Rattle.std.specs.Prelude.{◌≡◌, ℕ, ◌+◌, ◌-◌, ◌*◌, ◌/◌, ◌%◌, ◌^◌, ◌<◌, ◌≤◌, List, length, bit_or, slice_index, slice_index_or}
+use Rattle.std.specs.Prelude.{◌≡◌, ℕ, ◌+◌, ◌-◌, ◌*◌, ◌/◌, ◌%◌, ◌^◌, ◌<◌, ◌≤◌, Bool, true, false, List, [], length, replicate, bit_or, slice_index, slice_index_or}
 use Rattle.derivative.specs.Derivation.{derivation, after_state, ends_in}
 use Rattle.models.specs.Expressions.{Exp}
 use Rattle.models.specs.Folds.{code, value}
@@ -26,6 +26,17 @@ pub record RowAt {A : Type 0} (nodes : List (Node A)) (models : List Model) (i :
   pub coded : (e : Exp A) → Coded nodes models (i / 64 + 1) e → entry ≡ row e (i % 64)
   pub none : ((e : Exp A) → Coded nodes models (i / 64 + 1) e → ⊥) → entry ≡ 0
 
+-- The node is an atom.
+abbrev pub is_atom : {A : Type 0} → Node A → Bool
+is_atom node.Unused = false
+is_atom node.Empty = false
+is_atom (node.Atom a) = true
+is_atom node.Seq = false
+is_atom node.Alt = false
+is_atom node.Star = false
+is_atom node.Plus = false
+is_atom node.Opt = false
+
 -- The node is the atom of that number among the nodes, and unused where there is none.
 pub record AtomAt {A : Type 0} (nodes : List (Node A)) (n : ℕ) (x : Node A) : Type 0 where
   pub found : (a : A) → Numbered (atoms_of nodes) 0 n a → x ≡ node.Atom a
@@ -46,6 +57,18 @@ Atoms nodes models atoms = (i : ℕ) → i < length atoms → NodeAt nodes model
 -- There are 64 places for each element.
 abbrev pub HasRoom : {A : Type 0} → ℕ → List ℕ → List (Node A) → Type 0
 HasRoom elements rows atoms = (64 * elements ≤ length rows) × (64 * elements ≤ length atoms)
+
+-- There are as many places as before.
+abbrev pub SamePlaces : {A : Type 0} → List ℕ → List (Node A) → List ℕ → List (Node A) → Type 0
+SamePlaces rows atoms rows' atoms' = (length rows' ≡ length rows) × (length atoms' ≡ length atoms)
+
+-- Every place is left zero.
+abbrev pub Zeroed : {A : Type 0} → List ℕ → List (Node A) → List ℕ → List (Node A) → Type 0
+Zeroed rows atoms rows' atoms' = (rows' ≡ replicate (length rows) 0) × (atoms' ≡ replicate (length atoms) node.Unused)
+
+-- The places passed over to a table, so that none is left here.
+abbrev pub PassedOn : {A : Type 0} → List ℕ → List (Node A) → Type 0
+PassedOn rows atoms = (rows ≡ []) × (atoms ≡ [])
 
 -- The rows of every number that has an expression, 64 places to a number.
 abbrev pub Followed : {A : Type 0} → List (Node A) → List Model → List ℕ → Type 0

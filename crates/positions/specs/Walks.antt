@@ -1,15 +1,9 @@
 -- What a walk over the numbers in a set gathers.
-use Rattle.std.specs.Prelude.{◌≡◌, ℕ, ◌+◌, ◌-◌, ◌*◌, ◌^◌, ◌<◌, ◌≤◌, ◌⊎◌, List, length, Some, None, Option, bit_xor, slice_index, slice_index_or}
+use Rattle.std.specs.Prelude.{◌≡◌, ℕ, ◌+◌, ◌-◌, ◌*◌, ◌<◌, ◌≤◌, ◌⊎◌, List, length, Some, None, Option, slice_index, slice_index_or}
 use Rattle.bits.specs.Sets.{Has}
 use Rattle.models.specs.declared.node.Model.{Model}
 use Rattle.models.specs.declared.node.Node.{Node}
 use Rattle.models.specs.declared.node.Node.TheVariants as node
-
--- The lowest number in the set is taken out of it.
-abbrev pub Lowest : ℕ → Option (ℕ × ℕ) → Type 0
-Lowest set None = set ≡ 0
-Lowest set (Some taken) =
-    (taken.0 < 64) × Has set taken.0 × (taken.1 ≡ bit_xor set (2 ^ taken.0)) × (taken.1 < set)
 
 -- The set has exactly what stands in the rows of the numbers in another.
 abbrev pub Union : List ℕ → ℕ → ℕ → ℕ → Type 0

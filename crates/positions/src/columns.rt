@@ -6,18 +6,14 @@ ghost use Rattle.models.specs.declared.node.Node.TheVariants.{Unused};
 ghost use Rattle.positions.specs.Columns.{Columns, Sorted, Sorts};
 
 use super::buckets::Bucketed;
-use bits::{only, when};
+use bits::only;
 use models::Node;
 
 // The node at a place, or an unused one past the end.
 fn node_at<Atom: Copy>(nodes: &[Node<Atom>], place: usize) -> Node<Atom>
     ensures { result ≡ slice_index_or nodes.now place Unused }
 {
-    if place < nodes.len() {
-        nodes[place]
-    } else {
-        Node::Unused
-    }
+    nodes.get(place).copied().unwrap_or(Node::Unused)
 }
 
 // Whether a node is an atom that stands for some letter of the bucket.
@@ -38,8 +34,9 @@ fn column_at<L: Bucketed>(atoms: &[Node<L::Atom>], place: usize) -> u64
     let bucket = (place % 64) as u8;
     let mut found = 0;
     for number in 0..64 {
-        let sorted = sorts::<L>(node_at(atoms, base + number as usize), bucket);
-        found |= when(sorted, only(number));
+        if sorts::<L>(node_at(atoms, base + number as usize), bucket) {
+            found |= only(number);
+        }
     }
     found
 }
@@ -48,7 +45,7 @@ fn column_at<L: Bucketed>(atoms: &[Node<L::Atom>], place: usize) -> u64
 pub fn write_columns<L: Bucketed>(atoms: &[Node<L::Atom>], columns: &mut [u64])
     ensures { Columns L.Alphabet.stands L.Bucketed.falls atoms.now columns.new }
 {
-    for i in 0..columns.len() {
-        columns[i] = column_at::<L>(atoms, i);
+    for (place, column) in columns.iter_mut().enumerate() {
+        *column = column_at::<L>(atoms, place);
     }
 }

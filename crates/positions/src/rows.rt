@@ -1,54 +1,57 @@
 // The entries of a follow table, worked out from the node table.
 
-ghost use Rattle.std.specs.Prelude.{ℕ, ◌<◌, length};
+ghost use Rattle.std.specs.Prelude.{◌≡◌, ℕ, ◌<◌, length, filter, slice_get};
 ghost use Rattle.models.specs.declared.node.Node.TheVariants.{Unused};
-ghost use Rattle.positions.specs.Following.{AtomAt, Atoms, RowAt, Rows};
+ghost use Rattle.positions.specs.Following.{AtomAt, Atoms, RowAt, Rows, is_atom};
 
 use bits::{only, when};
 use derivative::known;
-use models::{Model, Node, nodes_of};
+use models::{Node, Tables};
 
 // The row at a place: what may be read right after atom `place % 64` of number `place / 64 + 1`.
-fn row_at<Atom: Copy>(nodes: &[Node<Atom>], models: &[Model], place: usize) -> u64
-    ensures { RowAt nodes.now models.now place result }
+fn row_at<Atom: Copy>(tables: Tables<'_, '_, Atom>, place: usize) -> u64
+    ensures { RowAt tables.entry.nodes.now tables.entry.models.now place result }
 {
     let from = only((place % 64) as u8);
-    match known(nodes_of(nodes, models, place / 64 + 1), from, u64::MAX) {
-        Some(derived) => derived.reached(from) | when(derived.may_end(from), 1),
-        None => 0,
-    }
+    known(tables.nodes_of(place / 64 + 1), from, u64::MAX)
+        .map_or(0, |derived| derived.reached(from) | when(derived.may_end(from), 1))
+}
+
+// The atom that so many atoms stand before.
+fn atom_after<Atom: Copy>(nodes: &[Node<Atom>], before: usize) -> Option<Node<Atom>>
+    ensures { result ≡ slice_get (filter is_atom nodes.now) before }
+{
+    nodes
+        .iter()
+        .copied()
+        .filter(|node| matches!(node, Node::Atom(_)))
+        .nth(before)
 }
 
 // The atom with a number, or an unused node where there is none.
 pub fn atom_of<Atom: Copy>(nodes: &[Node<Atom>], number: usize) -> Node<Atom>
     ensures { AtomAt nodes.now number result }
 {
-    let mut met = 0;
-    for node in nodes {
-        if let Node::Atom(_) = *node {
-            met += 1;
-            if met == number {
-                return *node;
-            }
-        }
-    }
-    Node::Unused
+    let Some(before) = number.checked_sub(1) else {
+        return Node::Unused;
+    };
+    atom_after(nodes, before).unwrap_or(Node::Unused)
 }
 
 // Writes the row of every place.
-pub fn write_rows<Atom: Copy>(nodes: &[Node<Atom>], models: &[Model], rows: &mut [u64])
-    ensures { Rows nodes.now models.now rows.new }
+pub fn write_rows<Atom: Copy>(tables: Tables<'_, '_, Atom>, rows: &mut [u64])
+    ensures { Rows tables.entry.nodes.now tables.entry.models.now rows.new }
 {
-    for i in 0..rows.len() {
-        rows[i] = row_at(nodes, models, i);
+    for (place, row) in rows.iter_mut().enumerate() {
+        *row = row_at(tables, place);
     }
 }
 
 // Writes the atom of every place.
-pub fn write_atoms<Atom: Copy>(nodes: &[Node<Atom>], models: &[Model], atoms: &mut [Node<Atom>])
-    ensures { Atoms nodes.now models.now atoms.new }
+pub fn write_atoms<Atom: Copy>(tables: Tables<'_, '_, Atom>, atoms: &mut [Node<Atom>])
+    ensures { Atoms tables.entry.nodes.now tables.entry.models.now atoms.new }
 {
-    for i in 0..atoms.len() {
-        atoms[i] = atom_of(nodes_of(nodes, models, i / 64 + 1), i % 64);
+    for (place, atom) in atoms.iter_mut().enumerate() {
+        *atom = atom_of(tables.nodes_of(place / 64 + 1), place % 64);
     }
 }

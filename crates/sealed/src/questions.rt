@@ -9,8 +9,8 @@ ghost use Rattle.sealing.specs.Questions.{FirstNo};
 
 use derivative::known;
 use engine::ContentAtom;
-use models::{Model, Node, nodes_of};
-use sealing::{first_ambiguous, first_without_tree};
+use models::{Node, Tables};
+use sealing::{first_ambiguous, first_without_tree, numbers_of};
 
 // Why tables may not be sealed: there are more than 63 records, or the first element that has no model of
 // declared names, has an ambiguous one, or has no valid tree.
@@ -37,55 +37,39 @@ fn names_declared(node: Node<ContentAtom>, last: usize) -> bool
 fn all_declared(nodes: &[Node<ContentAtom>], last: usize) -> bool
     ensures { Decides result (Each (Names last) (atoms_of nodes.now)) }
 {
-    for node in nodes {
-        if !names_declared(*node, last) {
-            return false;
-        }
-    }
-    true
+    nodes.iter().all(|node| names_declared(*node, last))
 }
 
 // Whether the number has a model, and its atoms name declared elements.
-fn has_model(nodes: &[Node<ContentAtom>], models: &[Model], number: u8) -> bool
-    ensures { Decides result (HasModel nodes.now models.now number) }
+fn has_model(tables: Tables<'_, '_, ContentAtom>, number: u8) -> bool
+    ensures { Decides result (HasModel tables.entry.nodes.now tables.entry.models.now number) }
 {
-    let slice = nodes_of(nodes, models, number as usize);
-    match known(slice, 0, 0) {
-        Some(_) => all_declared(slice, models.len()),
-        None => false,
-    }
+    let nodes = tables.nodes_of(number as usize);
+    known(nodes, 0, 0).is_some() && all_declared(nodes, tables.models.len())
 }
 
 // The first element that has no model, or one that names an element which is not declared.
-fn first_without_model(nodes: &[Node<ContentAtom>], models: &[Model]) -> Option<u8>
-    requires { length models.now ≤ 63 }
-    ensures { FirstNo (HasModel nodes.now models.now) (HasNoModel nodes.now models.now) (length models.now) result }
+fn first_without_model(tables: Tables<'_, '_, ContentAtom>) -> Option<u8>
+    requires { length tables.models.now ≤ 63 }
+    ensures { FirstNo (HasModel tables.entry.nodes.now tables.entry.models.now) (HasNoModel tables.entry.nodes.now tables.entry.models.now) (length tables.entry.models.now) result }
 {
-    for number in 1..64 {
-        if number as usize > models.len() {
-            return None;
-        }
-        if !has_model(nodes, models, number) {
-            return Some(number);
-        }
-    }
-    None
+    numbers_of(tables.models).find(|number| !has_model(tables, *number))
 }
 
 // Whether the tables may be sealed, and if not, the first reason.
-pub fn check(nodes: &[Node<ContentAtom>], models: &[Model]) -> Result<(), Unsealed>
-    ensures { Judged nodes.now models.now result }
+pub fn check(tables: Tables<'_, '_, ContentAtom>) -> Result<(), Unsealed>
+    ensures { Judged tables.entry.nodes.now tables.entry.models.now result }
 {
-    if models.len() > 63 {
+    if tables.models.len() > 63 {
         return Err(Unsealed::TooMany);
     }
-    if let Some(number) = first_without_model(nodes, models) {
+    if let Some(number) = first_without_model(tables) {
         return Err(Unsealed::NoModel(number));
     }
-    if let Some(number) = first_ambiguous(nodes, models) {
+    if let Some(number) = first_ambiguous(tables) {
         return Err(Unsealed::Ambiguous(number));
     }
-    if let Some(number) = first_without_tree(nodes, models) {
+    if let Some(number) = first_without_tree(tables) {
         return Err(Unsealed::NoTree(number));
     }
     Ok(())

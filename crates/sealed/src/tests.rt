@@ -2,17 +2,17 @@
 
 use super::{Unsealed, check};
 use engine::ContentAtom;
-use models::{Model, Node};
+use models::{Model, Node, Tables};
 
 // An element that must hold itself has no valid tree; where it may, it has one.
 #[test]
 fn holds_itself(rt: HostRuntime) {
     let models = [Model { start: 0, end: 1 }];
     let nodes = [Node::Atom(ContentAtom::Element(1))];
-    assert_eq!(rt; check(&nodes, &models), Err(Unsealed::NoTree(1)));
+    assert_eq!(rt; check(Tables { nodes: &nodes, models: &models }), Err(Unsealed::NoTree(1)));
     let models = [Model { start: 0, end: 2 }];
     let nodes = [Node::Atom(ContentAtom::Element(1)), Node::Opt];
-    assert_eq!(rt; check(&nodes, &models), Ok(()));
+    assert_eq!(rt; check(Tables { nodes: &nodes, models: &models }), Ok(()));
 }
 
 // An element that may come and then must is ambiguous.
@@ -26,5 +26,5 @@ fn may_and_must(rt: HostRuntime) {
         Node::Seq,
         Node::Empty,
     ];
-    assert_eq!(rt; check(&nodes, &models), Err(Unsealed::Ambiguous(1)));
+    assert_eq!(rt; check(Tables { nodes: &nodes, models: &models }), Err(Unsealed::Ambiguous(1)));
 }

@@ -28,12 +28,7 @@ fn is_text(node: Node<ContentAtom>) -> bool
 pub fn only_text(nodes: &[Node<ContentAtom>]) -> bool
     ensures { Decides result (Each TextOnly (atoms_of nodes.now)) }
 {
-    for node in nodes {
-        if !is_text(*node) {
-            return false;
-        }
-    }
-    true
+    nodes.iter().all(|node| is_text(*node))
 }
 
 // The atom by which text goes on after another one, the beginning being 0, if a word may also end there.
@@ -42,9 +37,7 @@ fn text_after(nodes: &[Node<ContentAtom>], last: u8) -> Option<u8>
     ensures { TextAfter nodes.now last result }
 {
     let state = only(last);
-    let Some(derived) = known(nodes, state, readers(nodes, Letter::Text)) else {
-        return None;
-    };
+    let derived = known(nodes, state, readers(nodes, Letter::Text))?;
     if !derived.may_end(state) {
         return None;
     }

@@ -1,5 +1,5 @@
 -- Elements that can be completed have trees, and elements with trees are in every set that lacks none.
-use Rattle.std.proofs.Common.{◌≡◌, ℕ, ◌+◌, ◌≤◌, Bool, true, false, List, [], ◌∷◌, ◌++◌, length, sym, refl, ap, ◌∙◌, subst, inl, inr, arith}
+use Rattle.std.proofs.Common.{◌≡◌, ℕ, ◌+◌, ◌≤◌, Bool, true, false, List, [], ◌∷◌, ◌++◌, length, Option, Some, None, unwrap_or, MatchOption, ◌<◌, sym, refl, ap, ◌∙◌, subst, inl, inr, arith}
 use borrow.Author.Tests.{both_ways}
 use Rattle.std.proofs.lemmas.Bool.{cases_eq}
 use Rattle.bits.specs.Sets.{has}
@@ -11,13 +11,13 @@ use Rattle.engine.specs.declared.alphabet.ContentAtom.TheVariants as content
 use Rattle.engine.specs.declared.alphabet.Letter.{Letter}
 use Rattle.engine.specs.declared.alphabet.Letter.TheVariants.{Text, Element}
 use Rattle.models.specs.Expressions.{Exp, empty, atom, seq, alt, star, plus, option, atoms, done, In}
-use Rattle.models.specs.Folds.{value, Codes}
+use Rattle.models.specs.Folds.{value, Folded}
 use Rattle.models.specs.Tables.{Coded, ModelWords, NodesOf}
 use Rattle.models.specs.declared.node.Model.{Model}
 use Rattle.models.specs.declared.node.Node.{Node}
 use Rattle.models.proofs.ModelTables.{coded_one}
 use Rattle.derivative.proofs.Knowing.{iff_and, iff_or}
-use Rattle.sealing.specs.Completion.{Within, completion, single_completes, Completes}
+use Rattle.sealing.specs.Completion.{Within, completion, single_completes, Completes, Lacking}
 use Rattle.sealing.specs.Questions.{HasTree}
 
 -- Of each letter of a word, and of each letter of its two parts.
@@ -88,8 +88,9 @@ module _ (nodes : List (Node ContentAtom)) (models : List Model) (number set : �
       let k = within_completes set e 0 w (subst (λ g. In (λ n. StandsFor) g 0 w) (coded_one nodes models number f e d c) l) p in
       both_ways (value (completion set) 0 e) (sym is) k
 
-  pub completes_none : (slice : List (Node ContentAtom)) → NodesOf nodes models number slice → ((e : Exp ContentAtom) → Codes 64 slice e → ⊥) → Completes nodes models set number → ⊥
-  completes_none slice is never (w, (e, c, l), p) = never e ((is e).1 c)
+  pub completes_found : (slice : List (Node ContentAtom)) → NodesOf nodes models number slice → (o : Option Bool) → Folded (completion set) 64 slice o → Decides (unwrap_or o false) (Completes nodes models set number)
+  completes_found slice is None never = λ (w, (e, c, l), p). never e ((is e).1 c)
+  completes_found slice is (Some v) (e, c, told) = completes_told e ((is e).0 c) v told
 
 module _ (C : ℕ → Language Letter) where
   -- Text, or an element that has a tree.
@@ -146,3 +147,8 @@ module _ (nodes : List (Node ContentAtom)) (models : List Model) (set : ℕ) whe
 pub more_trees : (nodes : List (Node ContentAtom)) (models : List Model) (set more k : ℕ) → ((n : ℕ) → has set n ≡ true → HasTree nodes models n) → HasTree nodes models k → ((q : ℕ) → (q ≡ k → ⊥) → has more q ≡ has set q) → (n : ℕ) → has more n ≡ true → HasTree nodes models n
 more_trees nodes models set more k known tree others n h =
     elim (cases_eq n k) [ inl e ↦ subst (HasTree nodes models) (sym e) tree | inr ne ↦ known n (sym (others n ne) ∙ h) ]
+
+-- The first number that a set lacks, of those from 1 to 63.
+pub lacking_found : (nodes : List (Node ContentAtom)) (models : List Model) (set : ℕ) (r : Option ℕ) → MatchOption r ((k : ℕ) → 1 ≤ k → k < 64 → Completes nodes models set k → has set k ≡ true) (λ i. (1 ≤ i) × (i < 64) × ((has set i ≡ false) × Completes nodes models set i) × ((k : ℕ) → 1 ≤ k → k < i → Completes nodes models set k → has set k ≡ true)) → Lacking nodes models set r
+lacking_found nodes models set None h = λ n low high. h n low (omega arith)
+lacking_found nodes models set (Some n) (low, high, out, before) = (omega arith, out.0, out.1)

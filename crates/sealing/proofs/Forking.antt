@@ -1,8 +1,10 @@
 -- What the code finds of forks and ambiguity is what the definitions say.
-use Rattle.std.proofs.Common.{◌≡◌, ℕ, ◌+◌, ◌^◌, ◌<◌, ◌≤◌, Bool, true, false, not, eqb, ◌⊎◌, List, [], ◌∷◌, ◌++◌, sym, refl, ap, ◌∙◌, subst, inl, inr, append-nil, eqb-true}
-use borrow.Author.Tests.{both_ways, eqb-false}
+use Rattle.std.proofs.Common.{◌≡◌, ℕ, ◌+◌, ◌<◌, ◌≤◌, Bool, true, false, ◌⊎◌, List, [], ◌∷◌, length, get_or, Option, Some, None, is_some, MatchOption, sym, refl, ap, ◌∙◌, subst, inl, inr, arith}
+use borrow.Author.Tests.{both_ways}
+use Rattle.std.specs.Iterator.{SkipsThenYields}
 use Rattle.std.proofs.lemmas.Bool.{cases_eq}
-use Rattle.bits.specs.Sets.{has}
+use Rattle.bits.specs.Sets.{has, TakesLowest}
+use Rattle.bits.specs.declared.Members.{Members}
 use Rattle.bits.proofs.Sets as sets
 use Rattle.engine.specs.Atoms.{StandsFor, content_sample}
 use Rattle.engine.specs.Languages.{Each, Decides}
@@ -11,23 +13,23 @@ use Rattle.engine.specs.declared.alphabet.ContentAtom.TheVariants as content
 use Rattle.engine.specs.declared.alphabet.Letter.{Letter}
 use Rattle.engine.specs.declared.alphabet.Letter.TheVariants.{Text, Element}
 use Rattle.models.specs.Expressions.{Exp}
-use Rattle.models.specs.Folds.{Codes, value}
+use Rattle.models.specs.Folds.{Codes, Folded, value}
 use Rattle.models.specs.Marks.{Mark}
-use Rattle.models.specs.Readers.{Numbered, Readers, atom_of, atoms_of}
+use Rattle.models.specs.Readers.{Numbered, Readers, atoms_of}
 use Rattle.bits.specs.Sets.{Has, singleton}
 use Rattle.models.specs.Tables.{NodesOf}
 use Rattle.models.specs.declared.node.Model.{Model}
 use Rattle.models.specs.declared.node.Node.{Node}
 use Rattle.models.specs.declared.node.Node.TheVariants as node
 use Rattle.models.proofs.Folding.{codes_one}
-use Rattle.models.proofs.Numbering.{leaves, coded_leaves, atoms_of_append}
+use Rattle.models.proofs.Numbering.{leaves, coded_leaves}
 use Rattle.derivative.specs.Derivation.{derivation, after_state}
 use Rattle.derivative.specs.declared.derive.Derived.{Derived}
 use Rattle.derivative.proofs.Knowing.{iff_member, Agrees}
 use Rattle.derivative.proofs.Stepping.{readers_agree}
 use Rattle.sealing.specs.Forks.{After, Forks, ForksIn, ForksBy, AmbiguousIn, Several}
 use Rattle.sealing.specs.Questions.{IsAmbiguous, Unambiguous}
-use Rattle.sealing.proofs.Completing.{each_both}
+use Rattle.sealing.proofs.Firsts.{each_atom}
 use Rattle.sealing.proofs.Marking.{reads_next, fork_ambiguous, ambiguous_fork}
 
 -- Two atoms with a letter in common have the sample of one of them in common.
@@ -55,25 +57,24 @@ content_sampled (content.All last) = tt
 pub content_alive : (a : ContentAtom) → (x : Letter) × StandsFor a x
 content_alive a = (content_sample a, content_sampled a)
 
--- A set from which one of its members is taken has several members exactly when something is left.
-pub several_left : (set rest p : ℕ) → rest < 2 ^ 64 → has set p ≡ true → has rest p ≡ false → ((q : ℕ) → (q ≡ p → ⊥) → has rest q ≡ has set q) → (rest ≡ 0 → ⊥) → Several set
-several_left set rest p fits here gone others some =
-    let (q, lt, m) = sets.some_member rest fits some in
-    let ne : q ≡ p → ⊥ = λ e. both_ways (has rest p) gone (subst (λ k. has rest k ≡ true) e m) in
-    (q, p, ne, sym (others q ne) ∙ m, here)
-
-pub several_none : (set rest p : ℕ) → ((q : ℕ) → (q ≡ p → ⊥) → has rest q ≡ has set q) → rest ≡ 0 → Several set → ⊥
-several_none set rest p others none (i, j, ne, hi, hj) =
-    elim (cases_eq i p) [
-      | inl e ↦ empty j (λ f. ne (e ∙ sym f)) hj
-      | inr n ↦ empty i n hi
-    ]
-  where
-    empty : (k : ℕ) → (k ≡ p → ⊥) → has set k ≡ true → ⊥
-    empty k n h = both_ways (has 0 k) (sets.empty k) (subst (λ s. has s k ≡ true) none (others k n ∙ h))
-
-pub several_empty : Several 0 → ⊥
-several_empty (i, j, ne, hi, hj) = both_ways (has 0 i) (sets.empty i) hi
+-- A second number that is taken out of a set differs from the first, and both are in it; where there is no
+-- second one, all that is in the set is the first.
+pub several_second : (s : Members) (r : Option ℕ) (u : Members) → SkipsThenYields (λ a p b. TakesLowest a.left p b.left) s 1 r u → Decides (is_some r) (Several s.left)
+several_second s None u ([], (t, is, none), few) = λ (i, j, ne, hi, hj). both_ways (has 0 i) (sets.empty i) (subst (λ m. has m i ≡ true) (ap (λ (v : Members). v.left) is ∙ none.0) hi)
+several_second s None u (p ∷ [], (t, (k, first, is), none), few) = λ (i, j, ne, hi, hj).
+    let rest : (q : ℕ) → has s.left q ≡ true → q ≡ p = λ q h.
+        elim (cases_eq q p) [
+          | inl e ↦ e
+          | inr n ↦ absurd (both_ways (has 0 q) (sets.empty q) (subst (λ m. has m q ≡ true) (ap (λ (v : Members). v.left) is ∙ none.0) (first.4 q n ∙ h)))
+        ] in
+    ne (rest i hi ∙ sym (rest j hj))
+several_second s None u (p ∷ (q ∷ xs), (t, y, none), few) = absurd (omega arith)
+several_second s (Some q) u ([], (t, y, second), one) = absurd (omega arith)
+several_second s (Some q) u (p ∷ [], (t, (k, first, is), second), one) =
+    let there : has k.left q ≡ true = subst (λ (v : Members). has v.left q ≡ true) (sym is) second.1 in
+    let ne : q ≡ p → ⊥ = λ e. both_ways (has k.left p) first.3 (subst (λ m. has k.left m ≡ true) e there) in
+    (q, p, ne, sym (first.4 q ne) ∙ there, first.1)
+several_second s (Some q) u (p ∷ (i ∷ xs), (t, y, second), one) = absurd (omega arith)
 
 -- Several atoms are reached exactly when there is a fork.
 pub forks_told : (nodes : List (Node ContentAtom)) (x : Letter) (p : ℕ) → p ≤ 63 → (r : ℕ) → Readers StandsFor nodes x r → (s : ℕ) → s ≡ singleton p → (d : Derived) (e : Exp ContentAtom) → Codes 64 nodes e → d ≡ value (derivation s r) 0 e → (t : ℕ) → t ≡ after_state s d → (b : Bool) → Decides b (Several t) → Decides b (ForksIn nodes x p)
@@ -100,6 +101,11 @@ forks_told nodes x p low r told s at d e codes is t reached b decided = by b dec
         let fork' = subst (λ g. Forks StandsFor g x p) (codes_one 64 nodes f e c codes) fork in
         never (fork'.one, fork'.other, fork'.differ, back fork'.one fork'.after_one fork'.first_way, back fork'.other fork'.after_other fork'.second_way)
 
+-- Where the nodes code nothing, nothing forks.
+pub forks_found : (nodes : List (Node ContentAtom)) (x : Letter) (p : ℕ) → p ≤ 63 → (r : ℕ) → Readers StandsFor nodes x r → (s : ℕ) → s ≡ singleton p → (o : Option Derived) → Folded (derivation s r) 64 nodes o → (b : Bool) → MatchOption o (b ≡ false) (λ d. Decides b (Several (after_state s d))) → Decides b (ForksIn nodes x p)
+forks_found nodes x p low r told s at None none b found = rw found (λ h. none h.0 h.1)
+forks_found nodes x p low r told s at (Some d) (e, codes, is) b found = forks_told nodes x p low r told s at d e codes is (after_state s d) refl b found
+
 -- A fork by any letter after any atom is an ambiguity.
 pub found_ambiguous : (nodes : List (Node ContentAtom)) (x : Letter) (p : ℕ) → ForksIn nodes x p → AmbiguousIn nodes
 found_ambiguous nodes x p (e, c, f) = (e, c, fork_ambiguous StandsFor content_alive e x p f)
@@ -116,32 +122,12 @@ found_none nodes none (e, c, m) =
     each_numbered (λ a. (p : ℕ) → p ≤ 63 → ForksIn nodes (content_sample a) p → ⊥) (atoms_of nodes) 0 n a none
     (subst (λ cs. Numbered cs 0 n a) (sym (ap atoms_of c.coded ∙ coded_leaves e)) k) p low (e, c, f)
 
-pub several_told : (set rest p : ℕ) → rest < 2 ^ 64 → has set p ≡ true → has rest p ≡ false → ((q : ℕ) → (q ≡ p → ⊥) → has rest q ≡ has set q) → Decides (not (eqb rest 0)) (Several set)
-several_told set rest p fits here gone others = by (eqb rest 0) refl
-  where
-    by : (t : Bool) → eqb rest 0 ≡ t → Decides (not t) (Several set)
-    by true e = several_none set rest p others (eqb-true rest 0 e)
-    by false e = several_left set rest p fits here gone others (eqb-false rest 0 e)
-
--- One node more, by which nothing forks.
-module _ (nodes : List (Node ContentAtom)) where
-  abbrev pub NoFork : ContentAtom → Type 0
-  NoFork a = (p : ℕ) → p ≤ 63 → ForksIn nodes (content_sample a) p → ⊥
-
-  no_fork_at : (x : Node ContentAtom) → (ForksBy nodes x → ⊥) → Each NoFork (atom_of x)
-  no_fork_at node.Unused never = tt
-  no_fork_at node.Empty never = tt
-  no_fork_at (node.Atom a) never = (λ p low f. never (a, refl, (p, low, f)), tt)
-  no_fork_at node.Seq never = tt
-  no_fork_at node.Alt never = tt
-  no_fork_at node.Star never = tt
-  no_fork_at node.Plus never = tt
-  no_fork_at node.Opt never = tt
-
-  pub no_fork_more : (seen : List (Node ContentAtom)) (x : Node ContentAtom) → Each NoFork (atoms_of seen) → (ForksBy nodes x → ⊥) → Each NoFork (atoms_of (seen ++ (x ∷ [])))
-  no_fork_more seen x h never =
-      subst (Each NoFork) (sym (atoms_of_append seen (x ∷ []) ∙ ap (λ cs. atoms_of seen ++ cs) (append-nil (atom_of x))))
-      (each_both NoFork (atoms_of seen) (atom_of x) h (no_fork_at x never))
+-- Nodes are ambiguous exactly when something forks by the sample of one of their atoms.
+pub ambiguous_told : (nodes : List (Node ContentAtom)) (b : Bool) → Decides b ((k : ℕ) × (k < length nodes) × ForksBy nodes (get_or nodes k node.Unused)) → Decides b (AmbiguousIn nodes)
+ambiguous_told nodes true (k, lt, (a, is, (p, low, f))) = found_ambiguous nodes (content_sample a) p f
+ambiguous_told nodes false never =
+    found_none nodes
+    (each_atom (λ a. (p : ℕ) → p ≤ 63 → ForksIn nodes (content_sample a) p → ⊥) nodes (λ k lt a is p low f. never (k, lt, (a, is, (p, low, f)))))
 
 -- From the nodes of a number to the number.
 module _ (nodes : List (Node ContentAtom)) (models : List Model) (n : ℕ) (slice : List (Node ContentAtom)) (is : NodesOf nodes models n slice) where

@@ -9,7 +9,7 @@ ghost use Rattle.sealing.specs.Questions.{HasTree};
 
 use bits::{contains, with};
 use engine::ContentAtom;
-use models::{Algebra, Model, Node, fold, nodes_of};
+use models::{Algebra, Tables, fold};
 
 // The algebra of one question: has the expression a word of text and elements of the set?
 #[derive(Clone, Copy)]
@@ -56,39 +56,28 @@ impl Algebra<ContentAtom> for Completion {
 }
 
 // Whether the number's model has a word of text and elements of the set.
-fn completes(nodes: &[Node<ContentAtom>], models: &[Model], number: u8, set: u64) -> bool
-    ensures { Decides result (Completes nodes.now models.now set number) }
+fn completes(tables: Tables<'_, '_, ContentAtom>, number: u8, set: u64) -> bool
+    ensures { Decides result (Completes tables.entry.nodes.now tables.entry.models.now set number) }
 {
+    let nodes = tables.nodes_of(number as usize);
     let mut work = [false; 64];
-    match fold(
-        &Completion { set },
-        nodes_of(nodes, models, number as usize),
-        &mut work,
-    ) {
-        Some(answer) => answer,
-        None => false,
-    }
+    fold(&Completion { set }, nodes, &mut work).unwrap_or(false)
 }
 
 // A number that the set still lacks, or none.
-fn lacking(nodes: &[Node<ContentAtom>], models: &[Model], set: u64) -> Option<u8>
-    ensures { Lacking nodes.now models.now set result }
+fn lacking(tables: Tables<'_, '_, ContentAtom>, set: u64) -> Option<u8>
+    ensures { Lacking tables.entry.nodes.now tables.entry.models.now set result }
 {
-    for number in 1..64 {
-        if !contains(set, number) && completes(nodes, models, number, set) {
-            return Some(number);
-        }
-    }
-    None
+    (1..64).find(|number| !contains(set, *number) && completes(tables, *number, set))
 }
 
 // The elements that have a valid tree, values left aside.
-pub fn completed(nodes: &[Node<ContentAtom>], models: &[Model]) -> u64
-    requires { length models.now ≤ 63 }
-    ensures { (n : ℕ) → Decides (has result n) (HasTree nodes.now models.now n) }
+pub fn completed(tables: Tables<'_, '_, ContentAtom>) -> u64
+    requires { length tables.models.now ≤ 63 }
+    ensures { (n : ℕ) → Decides (has result n) (HasTree tables.entry.nodes.now tables.entry.models.now n) }
 {
     let mut set = 0;
-    while let Some(number) = lacking(nodes, models, set) {
+    while let Some(number) = lacking(tables, set) {
         set = with(set, number);
     }
     set

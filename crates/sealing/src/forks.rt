@@ -5,7 +5,7 @@ ghost use Rattle.engine.specs.Atoms.{content_sample};
 ghost use Rattle.engine.specs.Languages.{Decides};
 ghost use Rattle.sealing.specs.Forks.{AmbiguousIn, ForksBy, ForksIn, Several};
 
-use bits::{lowest, only, without};
+use bits::{Members, only};
 use derivative::known;
 use engine::{ContentAtom, Letter};
 use models::{Node, readers};
@@ -14,10 +14,7 @@ use models::{Node, readers};
 fn several(set: u64) -> bool
     ensures { Decides result (Several set) }
 {
-    match lowest(set) {
-        Some(place) => without(set, place) != 0,
-        None => false,
-    }
+    Members::of(set).nth(1).is_some()
 }
 
 // Whether after an atom, or at the beginning where it is 0, two atoms may read the letter.
@@ -26,22 +23,15 @@ fn forks(nodes: &[Node<ContentAtom>], letter: Letter, after: u8) -> bool
     ensures { Decides result (ForksIn nodes.now letter after) }
 {
     let state = only(after);
-    match known(nodes, state, readers(nodes, letter)) {
-        Some(derived) => several(derived.reached(state)),
-        None => false,
-    }
+    known(nodes, state, readers(nodes, letter))
+        .is_some_and(|derived| several(derived.reached(state)))
 }
 
 // Whether two atoms may read the letter after some atom or at the beginning.
 fn forks_somewhere(nodes: &[Node<ContentAtom>], letter: Letter) -> bool
     ensures { Decides result ((p : ℕ) × (p ≤ 63) × ForksIn nodes.now letter p) }
 {
-    for after in 0..64 {
-        if forks(nodes, letter, after) {
-            return true;
-        }
-    }
-    false
+    (0..64).any(|after| forks(nodes, letter, after))
 }
 
 // A letter that the atom stands for. Where two atoms have a letter in common, they have the sample of
@@ -70,10 +60,5 @@ fn forks_at(nodes: &[Node<ContentAtom>], node: Node<ContentAtom>) -> bool
 pub fn ambiguous(nodes: &[Node<ContentAtom>]) -> bool
     ensures { Decides result (AmbiguousIn nodes.now) }
 {
-    for node in nodes {
-        if forks_at(nodes, *node) {
-            return true;
-        }
-    }
-    false
+    nodes.iter().any(|node| forks_at(nodes, *node))
 }

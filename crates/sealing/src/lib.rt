@@ -10,4 +10,5 @@ mod forks;
 mod trees;
 
 pub use ambiguity::first_ambiguous;
+pub use elements::numbers_of;
 pub use trees::first_without_tree;

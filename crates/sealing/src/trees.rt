@@ -4,24 +4,15 @@ ghost use Rattle.std.specs.Prelude.{length};
 ghost use Rattle.sealing.specs.Questions.{FirstNo, HasTree, HasNoTree, elements};
 
 use super::completion::completed;
-use super::elements::elements_of;
+use super::elements::{elements_of, numbers_of};
 use bits::contains;
 use engine::ContentAtom;
-use models::{Model, Node};
+use models::Tables;
 
 // The first element that has no valid tree, values left aside, or none where each has one.
-pub fn first_without_tree(nodes: &[Node<ContentAtom>], models: &[Model]) -> Option<u8>
-    ensures { FirstNo (HasTree nodes.now (elements models.now)) (HasNoTree nodes.now (elements models.now)) (length (elements models.now)) result }
+pub fn first_without_tree(tables: Tables<'_, '_, ContentAtom>) -> Option<u8>
+    ensures { let models = elements tables.entry.models.now in FirstNo (HasTree tables.entry.nodes.now models) (HasNoTree tables.entry.nodes.now models) (length models) result }
 {
-    let models = elements_of(models);
-    let set = completed(nodes, models);
-    for number in 1..64 {
-        if number as usize > models.len() {
-            return None;
-        }
-        if !contains(set, number) {
-            return Some(number);
-        }
-    }
-    None
+    let set = completed(elements_of(tables));
+    numbers_of(tables.models).find(|number| !contains(set, *number))
 }

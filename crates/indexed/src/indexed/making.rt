@@ -1,15 +1,15 @@
 // Making an indexed engine: the promise of its languages.
 
-ghost use Rattle.std.specs.Prelude.{◌≡◌, ℕ, [], length, replicate, Ok, Err};
+ghost use Rattle.std.specs.Prelude.{◌≡◌, ℕ, [], length, replicate, MatchResult};
 ghost use Rattle.engine.specs.Atoms.{StandsFor};
 ghost use Rattle.engine.specs.Languages.{Empty, Same};
 ghost use Rattle.models.specs.Tables.{ModelRest};
-ghost use Rattle.models.specs.declared.node.Node.TheVariants.{Unused};
 ghost use Rattle.positions.specs.Columns.{HasAllRoom, SortedTable, letter_bucket};
+ghost use Rattle.positions.specs.Following.{PassedOn, SamePlaces, Zeroed};
 
 use super::Indexed;
 use engine::{Engine, Letter};
-use positions::{BlankColumns, BlankTable, ContentTable, TooFewPlaces};
+use positions::{BlankColumnTable, ContentTable, TooFewPlaces};
 use sealed::Sealed;
 
 impl<'n, 'm, 'r, 'a, 'c> Indexed<'n, 'm, 'r, 'a, 'c> {
@@ -29,19 +29,18 @@ impl<'n, 'm, 'r, 'a, 'c> Indexed<'n, 'm, 'r, 'a, 'c> {
     pub fn fill(
         &mut self,
         sealed: &Sealed<'n, 'm>,
-        blank: &mut BlankTable<'r, 'a, Letter>,
-        columns: &mut BlankColumns<'c>,
+        blank: &mut BlankColumnTable<'r, 'a, 'c, Letter>,
     ) -> Result<(), TooFewPlaces>
-        ensures answer { elim result [ Ok v ↦ HasAllRoom (length sealed.now.models.now) blank.old.rows.now blank.old.atoms.now columns.old.columns.now | Err v ↦ (HasAllRoom (length sealed.now.models.now) blank.old.rows.now blank.old.atoms.now columns.old.columns.now → ⊥) ] }
-        ensures tables { elim result [ Ok v ↦ self.new.sealed ≡ sealed.now | Err v ↦ self.new ≡ self.old ] }
-        ensures made { elim result [ Ok v ↦ SortedTable StandsFor letter_bucket sealed.now.nodes.now sealed.now.models.now self.new.table.table.rows.now self.new.table.table.atoms.now self.new.table.columns.now | Err v ↦ Unit {0} ] }
-        ensures room { elim result [ Ok v ↦ (length self.new.table.table.rows.now ≡ length blank.old.rows.now) × (length self.new.table.table.atoms.now ≡ length blank.old.atoms.now) × (length self.new.table.columns.now ≡ length columns.old.columns.now) | Err v ↦ Unit {0} ] }
-        ensures left { elim result [ Ok v ↦ (blank.new.rows.now ≡ []) × (blank.new.atoms.now ≡ []) × (columns.new.columns.now ≡ []) | Err v ↦ (blank.new.rows.now ≡ replicate (length blank.old.rows.now) 0) × (blank.new.atoms.now ≡ replicate (length blank.old.atoms.now) Unused) × (columns.new.columns.now ≡ replicate (length columns.old.columns.now) 0) ] }
-        ensures languages { elim result [ Ok v ↦ ((number : ℕ) → Same (⟦<Indexed<'n, 'm, 'r, 'a, 'c> as Engine>⟧.language self.new number) (⟦<Sealed<'n, 'm> as Engine>⟧.language sealed.now number)) | Err v ↦ Unit {0} ] }
-        ensures states { elim result [ Ok v ↦ ((number state : ℕ) → Same (⟦<Indexed<'n, 'm, 'r, 'a, 'c> as Engine>⟧.rest self.new number state) (ModelRest StandsFor sealed.now.nodes.now sealed.now.models.now number state)) | Err v ↦ Unit {0} ] }
+        ensures answer { let room = HasAllRoom (length sealed.now.engine.tables.models.now) blank.old.table.rows.now blank.old.table.atoms.now blank.old.columns.now in MatchResult result (λ _. room) (λ _. room → ⊥) }
+        ensures tables { MatchResult result (λ _. self.new.sealed ≡ sealed.now) (λ _. self.new ≡ self.old) }
+        ensures made { MatchResult result (λ _. SortedTable StandsFor letter_bucket sealed.now.engine.tables.nodes.now sealed.now.engine.tables.models.now self.new.table.table.rows.now self.new.table.table.atoms.now self.new.table.columns.now) (λ _. Unit {0}) }
+        ensures room { MatchResult result (λ _. SamePlaces blank.old.table.rows.now blank.old.table.atoms.now self.new.table.table.rows.now self.new.table.table.atoms.now × (length self.new.table.columns.now ≡ length blank.old.columns.now)) (λ _. Unit {0}) }
+        ensures left { MatchResult result (λ _. PassedOn blank.new.table.rows.now blank.new.table.atoms.now × (blank.new.columns.now ≡ [])) (λ _. Zeroed blank.old.table.rows.now blank.old.table.atoms.now blank.new.table.rows.now blank.new.table.atoms.now × (blank.new.columns.now ≡ replicate (length blank.old.columns.now) 0)) }
+        ensures languages { MatchResult result (λ _. (number : ℕ) → Same (⟦<Indexed<'n, 'm, 'r, 'a, 'c> as Engine>⟧.language self.new number) (⟦<Sealed<'n, 'm> as Engine>⟧.language sealed.now number)) (λ _. Unit {0}) }
+        ensures states { MatchResult result (λ _. (number state : ℕ) → Same (⟦<Indexed<'n, 'm, 'r, 'a, 'c> as Engine>⟧.rest self.new number state) (ModelRest StandsFor sealed.now.engine.tables.nodes.now sealed.now.engine.tables.models.now number state)) (λ _. Unit {0}) }
     {
         let mut table = ContentTable::empty();
-        table.fill(sealed.nodes(), sealed.models(), blank, columns)?;
+        table.fill(sealed.tables(), blank)?;
         *self = Indexed {
             sealed: *sealed,
             table,

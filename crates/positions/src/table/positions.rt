@@ -6,49 +6,39 @@ ghost use Rattle.positions.specs.Walks.{Based};
 
 use super::super::walks::{reading, union_of};
 use super::FollowTable;
+use derivative::BEGINNING;
 use engine::{Alphabet, Engine};
 use models::Model;
-
-// The state at the beginning: no atom was read yet.
-pub const BEGINNING: u64 = 1;
 
 // Where a number's places begin, if it has a record.
 pub(crate) fn base_of(models: &[Model], number: u8) -> Option<usize>
     ensures { Based models.now number result }
 {
-    let number = number as usize;
-    if number < 1 || number > models.len() {
-        return None;
-    }
-    Some(64 * (number - 1))
+    let place = (number as usize).checked_sub(1)?;
+    (place < models.len()).then_some(64 * place)
 }
 
 impl<L: Alphabet> Engine for FollowTable<'_, '_, '_, '_, L> {
     type Letter = L;
 
-    ghost language = { λ self. ModelWords L.Alphabet.stands self.nodes.now self.models.now };
+    ghost language = { λ self. ModelWords L.Alphabet.stands self.tables.nodes.now self.tables.models.now };
 
-    ghost rest = { λ self. ModelRest L.Alphabet.stands self.nodes.now self.models.now };
+    ghost rest = { λ self. ModelRest L.Alphabet.stands self.tables.nodes.now self.tables.models.now };
 
     fn open(&self, number: u8) -> Option<u64> {
-        let base = base_of(self.models, number)?;
-        if self.rows[base] == 0 {
-            None
-        } else {
-            Some(BEGINNING)
-        }
+        let base = base_of(self.tables.models, number)?;
+        (self.rows[base] != 0).then_some(BEGINNING)
     }
 
     fn step(&self, number: u8, state: u64, letter: L) -> Option<u64> {
-        let base = base_of(self.models, number)?;
-        let next = reading(self.atoms, base, union_of(self.rows, base, state), letter);
-        if next == 0 { None } else { Some(next) }
+        let base = base_of(self.tables.models, number)?;
+        let after = union_of(self.rows, base, state);
+        let next = reading(self.atoms, base, after, letter);
+        (next != 0).then_some(next)
     }
 
     fn ends(&self, number: u8, state: u64) -> bool {
-        match base_of(self.models, number) {
-            Some(base) => union_of(self.rows, base, state) % 2 == 1,
-            None => false,
-        }
+        base_of(self.tables.models, number)
+            .is_some_and(|base| union_of(self.rows, base, state) % 2 == 1)
     }
 }

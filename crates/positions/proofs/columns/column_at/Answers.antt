@@ -1,10 +1,11 @@
-use Rattle.std.proofs.Common.{◌≡◌, ◌+◌, ◌*◌, ◌/◌, ◌%◌, ◌<◌, sym, ap, ◌∙◌, subst, arith}
-use lib.Bits.{bit_or}
+use Rattle.std.proofs.Common.{◌≡◌, ◌+◌, ◌*◌, ◌/◌, ◌%◌, ◌<◌, Bool, true, false, get_or, sym, ap, ◌∙◌, subst, arith}
+use lib.Bits.{bit_or, or_zero_r}
 use Rattle.engine.specs.Languages.{Decides}
-use Rattle.bits.specs.Sets.{guarded, singleton}
+use Rattle.models.specs.declared.node.Node.TheVariants.{Unused}
 use Rattle.positions.specs.Columns.{Sorted, Sorts}
 use Rattle.positions.proofs.Sorting.{sorted_more}
 use Rattle.positions.proofs.columns.column_at.Goals as goal
+use Rattle.positions.proofs.columns.column_at.Goals.{then-sorts, else-sorts}
 
 pub loop-number-preserved : goal.loop-number-preserved
 loop-number-preserved g c =
@@ -15,11 +16,17 @@ loop-number-preserved g c =
     let bucket = c.args.place % 64 in
     let n = c.loop-number.number in
     let found = c.loop-number.found in
-    let t = c.sorts-sorted.result in
-    let bit : c.when-found.result ≡ guarded t (singleton n) = c.when-found.ensures ∙ ap (guarded t) c.only.ensures in
     let lt : n < 64 = omega arith in
-    subst (λ b. Sorted stands falls atoms base bucket (n + 1) (bit_or found b)) (sym bit)
-    (sorted_more stands falls atoms base bucket n found t lt (subst (λ x. Decides t (Sorts stands falls x bucket)) c.node_at.ensures c.sorts-sorted.ensures) c.loop-number.invariant)
+    let decides : (t : Bool) → c.sorts.result ≡ t → Decides t (Sorts stands falls (get_or atoms (base + n) Unused) bucket) =
+        λ t is. subst (λ x. Decides t (Sorts stands falls x bucket)) c.node_at.ensures (subst (λ b. Decides b (Sorts stands falls c.node_at.result bucket)) is c.sorts.ensures) in
+    elim c.if-sorts.branch [
+      | then-sorts w ↦
+          subst (Sorted stands falls atoms base bucket (n + 1)) (sym (w.found-is ∙ ap (λ s. bit_or found s) w.only-found.ensures))
+          (sorted_more stands falls atoms base bucket n found true lt (decides true w.if-sorts.true) c.loop-number.invariant)
+      | else-sorts w ↦
+          subst (Sorted stands falls atoms base bucket (n + 1)) (or_zero_r found ∙ sym w.found-is)
+          (sorted_more stands falls atoms base bucket n found false lt (decides false w.if-sorts.false) c.loop-number.invariant)
+    ]
 
 pub returns : goal.returns
 returns g c =

@@ -1,18 +1,16 @@
-use Rattle.std.proofs.Common.{◌+◌, ◌/◌, ◌%◌, ap, ◌∙◌}
-use Rattle.models.proofs.ModelTables.{coded_one}
-use Rattle.positions.specs.Following.{row}
-use Rattle.positions.proofs.Entries.{row_made}
+use Rattle.std.proofs.Common.{◌≡◌, rules}
+use lib.Bits.{bit_or}
+use Rattle.std.specs.Option.{MatchOption}
+use Rattle.bits.specs.Sets.{guarded}
+use Rattle.models.proofs.Options.{match_then}
+use Rattle.derivative.specs.Derivation.{after_state, ends_in}
+use Rattle.positions.proofs.Entries.{row_found}
 use Rattle.positions.proofs.rows.row_at.Goals as goal
 
-pub returns-in-Some : goal.returns-in-Some
-returns-in-Some g c =
-    let nodes = c.args.nodes.now in
-    let models = c.args.models.now in
-    let i = c.args.place in
-    let got = c.in-Some.ensures in
-    let coded = (c.nodes_of.ensures got.0).0 got.1 in
-    let made = row_made got.0 (i % 64) c.only-from.result c.in-Some.derived c.reached.result c.may_end.result c.when.result c.only-from.ensures got.2 c.reached.ensures c.may_end.ensures c.when.ensures in
-    record {
-      coded = λ e h. made ∙ ap (λ f. row f (i % 64)) (coded_one nodes models (i / 64 + 1) got.0 e coded h);
-      none = λ never. absurd (never got.0 coded);
-    }
+pub returns : goal.returns
+returns g c =
+    let tables = c.args.tables in
+    let from = c.only-from.result in
+    let made : MatchOption c.known.result (c.map_or.result ≡ 0) (λ d. c.map_or.result ≡ bit_or (after_state from d) (guarded (ends_in from d) 1)) =
+    match_then _ c.known.result c.map_or.ensures (λ d h. search rules) in
+    row_found tables.nodes.now tables.models.now c.args.place c.nodes_of.result.now c.nodes_of.ensures from c.only-from.ensures c.known.result c.known.ensures c.map_or.result made

@@ -3,5 +3,5 @@ use Rattle.models.specs.declared.node.Node.TheVariants.{Unused}
 use Rattle.positions.specs.Following.{NodeAt}
 use Rattle.positions.proofs.rows.write_atoms.Given as goal
 
-abbrev pub invariant-loop-i : goal.invariant-loop-i
-invariant-loop-i g l = (k : ℕ) → k < l.i → NodeAt l.nodes l.models k (get_or l.atoms k Unused)
+abbrev pub invariant-loop-place : goal.invariant-loop-place
+invariant-loop-place g l = (k : ℕ) → k < l.place → NodeAt l.tables.nodes.now l.tables.models.now k (get_or l.atoms k Unused)

@@ -2,5 +2,5 @@ use Rattle.std.proofs.Common.{ℕ, ◌<◌, get_or}
 use Rattle.positions.specs.Following.{RowAt}
 use Rattle.positions.proofs.rows.write_rows.Given as goal
 
-abbrev pub invariant-loop-i : goal.invariant-loop-i
-invariant-loop-i g l = (k : ℕ) → k < l.i → RowAt l.nodes l.models k (get_or l.rows k 0)
+abbrev pub invariant-loop-place : goal.invariant-loop-place
+invariant-loop-place g l = (k : ℕ) → k < l.place → RowAt l.tables.nodes.now l.tables.models.now k (get_or l.rows k 0)

@@ -4,8 +4,5 @@ use Rattle.positions.specs.Walks.{Reads}
 use Rattle.positions.proofs.Gathering.{Gathered}
 use Rattle.positions.proofs.walks.reading.Given as goal
 
-abbrev pub invariant-loop-lowest : goal.invariant-loop-lowest
-invariant-loop-lowest g l = Gathered (λ p n. (n ≡ p) × Reads g.L.Alphabet.stands (get_or l.atoms (l.base + p) node.Unused) l.letter) l.set l.left l.found
-
-abbrev pub decreases-loop-lowest : goal.decreases-loop-lowest
-decreases-loop-lowest g l = l.left
+abbrev pub invariant-loop-number : goal.invariant-loop-number
+invariant-loop-number g l = Gathered (λ p n. (n ≡ p) × Reads g.L.Alphabet.stands (get_or l.atoms (l.base + p) node.Unused) l.letter) l.set l.number-iterator.left l.found

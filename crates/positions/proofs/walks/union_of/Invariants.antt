@@ -3,8 +3,5 @@ use Rattle.bits.specs.Sets.{Has}
 use Rattle.positions.proofs.Gathering.{Gathered}
 use Rattle.positions.proofs.walks.union_of.Given as goal
 
-abbrev pub invariant-loop-lowest : goal.invariant-loop-lowest
-invariant-loop-lowest l = Gathered (λ p n. Has (get_or l.rows (l.base + p) 0) n) l.set l.left l.union
-
-abbrev pub decreases-loop-lowest : goal.decreases-loop-lowest
-decreases-loop-lowest l = l.left
+abbrev pub invariant-loop-number : goal.invariant-loop-number
+invariant-loop-number l = Gathered (λ p n. Has (get_or l.rows (l.base + p) 0) n) l.set l.number-iterator.left l.union

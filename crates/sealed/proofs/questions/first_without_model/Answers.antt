@@ -1,18 +1,14 @@
-use Rattle.std.proofs.Common.{arith}
-use Rattle.sealing.proofs.Firsts.{below_next, decided_yes, decided_no}
-use Rattle.sealed.specs.Checks.{HasModel}
+use Rattle.std.proofs.Common.{◌+◌, rules, length, ap, ◌∙◌, take_all}
+use Rattle.std.proofs.lemmas.Iterator.{first_from_Range}
+use borrow.Author.Tests.{tests}
+use Rattle.sealing.proofs.Firsts.{first_no}
+use Rattle.sealed.specs.Checks.{HasModel, HasNoModel}
 use Rattle.sealed.proofs.questions.first_without_model.Goals as goal
 
-pub returns-then-number-models : goal.returns-then-number-models
-returns-then-number-models c n low high = c.loop-number.invariant n low (omega arith)
-
-pub returns-then-not-has_model : goal.returns-then-not-has_model
-returns-then-not-has_model c = (omega arith, omega arith, decided_no c.has_model.result c.has_model.ensures c.if-not-has_model.true, c.loop-number.invariant)
-
-pub loop-number-preserved : goal.loop-number-preserved
-loop-number-preserved c =
-    below_next (HasModel c.args.nodes.now c.args.models.now) c.loop-number.number c.loop-number.invariant
-    (decided_yes c.has_model.result c.has_model.ensures c.if-not-has_model.false)
-
 pub returns : goal.returns
-returns c n low high = c.loop-number.invariant n low (omega (arith, c.requires))
+returns c =
+    let nodes = c.args.tables.nodes.now in
+    let models = c.args.tables.models.now in
+    first_no (HasModel nodes models) (HasNoModel nodes models) c.numbers_of.result.start c.numbers_of.result.end (length models) c.find.result
+    c.numbers_of.ensures.start (c.numbers_of.ensures.end ∙ ap (λ ms. length ms + 1) (take_all 63 models c.requires)) (λ n h. h) (λ n h. h)
+    (first_from_Range _ _ _ c.find.result (HasNoModel nodes models) (HasModel nodes models) c.find.ensures.ran (λ x q k. search (rules, tests)) (λ x q k. search (rules, tests)))

@@ -1,36 +1,16 @@
-use Rattle.std.proofs.Common.{length, Some, None, ap, subst, arith, length-take}
-use Rattle.sealing.specs.Questions.{FirstNo, IsAmbiguous, Unambiguous}
-use Rattle.sealing.proofs.Firsts.{below_next, decided_yes, decided_no}
-use Rattle.sealing.proofs.Forking.{ambiguous_number, unambiguous_number}
+use Rattle.std.proofs.Common.{rules, length, subst}
+use Rattle.std.proofs.lemmas.Iterator.{first_from_Range}
+use borrow.Author.Tests.{tests}
+use Rattle.sealing.specs.Questions.{FirstNo, IsAmbiguous, Unambiguous, elements}
+use Rattle.sealing.proofs.Firsts.{first_no}
 use Rattle.sealing.proofs.ambiguity.first_ambiguous.Goals as goal
-
-pub returns-then-number-models : goal.returns-then-number-models
-returns-then-number-models c =
-    let nodes = c.args.nodes.now in
-    subst (λ ms. FirstNo (Unambiguous nodes ms) (IsAmbiguous nodes ms) (length ms) None) c.elements_of-models.ensures
-    (λ n low high. c.loop-number.invariant n low (omega arith))
-
-pub returns-then-ambiguous : goal.returns-then-ambiguous
-returns-then-ambiguous c =
-    let nodes = c.args.nodes.now in
-    let models = c.elements_of-models.result.now in
-    let n = c.loop-number.number in
-    let slice = c.nodes_of.result.now in
-    subst (λ ms. FirstNo (Unambiguous nodes ms) (IsAmbiguous nodes ms) (length ms) (Some n)) c.elements_of-models.ensures
-    (omega arith, omega arith, ambiguous_number nodes models n slice c.nodes_of.ensures (decided_yes c.ambiguous.result c.ambiguous.ensures c.if-ambiguous.true), c.loop-number.invariant)
-
-pub loop-number-preserved : goal.loop-number-preserved
-loop-number-preserved c =
-    let nodes = c.args.nodes.now in
-    let models = c.elements_of-models.result.now in
-    let n = c.loop-number.number in
-    below_next (Unambiguous nodes models) n c.loop-number.invariant
-    (unambiguous_number nodes models n c.nodes_of.result.now c.nodes_of.ensures (decided_no c.ambiguous.result c.ambiguous.ensures c.if-ambiguous.false))
 
 pub returns : goal.returns
 returns c =
-    let nodes = c.args.nodes.now in
-    let few = length-take 63 c.args.models.now in
-    let is = ap length c.elements_of-models.ensures in
-    subst (λ ms. FirstNo (Unambiguous nodes ms) (IsAmbiguous nodes ms) (length ms) None) c.elements_of-models.ensures
-    (λ n low high. c.loop-number.invariant n low (omega arith))
+    let nodes = c.elements_of-elements.result.nodes.now in
+    let models = c.elements_of-elements.result.models.now in
+    let wanted = elements c.args.tables.models.now in
+    subst (λ ns. FirstNo (Unambiguous ns wanted) (IsAmbiguous ns wanted) (length wanted) c.find.result) c.elements_of-elements.ensures.nodes
+    (subst (λ ms. FirstNo (Unambiguous nodes ms) (IsAmbiguous nodes ms) (length wanted) c.find.result) c.elements_of-elements.ensures.models
+    (first_no (Unambiguous nodes models) (IsAmbiguous nodes models) c.numbers_of.result.start c.numbers_of.result.end (length wanted) c.find.result c.numbers_of.ensures.start c.numbers_of.ensures.end (λ n h. h) (λ n h. h)
+    (first_from_Range _ _ _ c.find.result (IsAmbiguous nodes models) (Unambiguous nodes models) c.find.ensures.ran (λ x q k. search (rules, tests)) (λ x q k. search (rules, tests)))))

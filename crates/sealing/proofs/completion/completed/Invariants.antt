@@ -4,7 +4,7 @@ use Rattle.sealing.specs.Questions.{HasTree}
 use Rattle.sealing.proofs.completion.completed.Given as goal
 
 abbrev pub invariant-loop-number : goal.invariant-loop-number
-invariant-loop-number l = (n : ℕ) → has l.set n ≡ true → HasTree l.nodes l.models n
+invariant-loop-number l = (n : ℕ) → has l.set n ≡ true → HasTree l.tables.nodes.now l.tables.models.now n
 
 abbrev pub decreases-loop-number : goal.decreases-loop-number
 decreases-loop-number l = 2 ^ 64 - l.set

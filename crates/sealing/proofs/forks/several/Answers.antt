@@ -1,7 +1,10 @@
-use Rattle.sealing.proofs.Forking.{several_told}
+use Rattle.std.proofs.Common.{is_some, sym, subst}
+use Rattle.engine.specs.Languages.{Decides}
+use Rattle.sealing.specs.Forks.{Several}
+use Rattle.sealing.proofs.Forking.{several_second}
 use Rattle.sealing.proofs.forks.several.Goals as goal
 
-pub returns-in-Some : goal.returns-in-Some
-returns-in-Some c =
-    let found = c.in-Some.ensures in
-    several_told c.args.set c.without.result c.in-Some.place c.without.type_inv found.1 c.without.ensures.removed c.without.ensures.others
+pub returns : goal.returns
+returns c =
+    subst (λ b. Decides b (Several c.args.set)) (sym c.is_some.ensures)
+    (subst (λ s. Decides (is_some c.nth.result) (Several s)) c.of.ensures (several_second c.of.result c.nth.result c.nth.new.self c.nth.ensures.ran))

@@ -11,6 +11,6 @@ returns c =
     record {
       answer =
           of_the_same (λ nodes models. Answers (ModelWords StandsFor nodes models c.args.number) (ModelRest StandsFor nodes models c.args.number) c.open.result)
-          self.table.table.nodes.now self.sealed.nodes.now self.nodes self.table.table.models.now self.sealed.models.now self.models c.open.ensures.answer;
+          self.table.table.tables.nodes.now self.sealed.engine.tables.nodes.now self.nodes self.table.table.tables.models.now self.sealed.engine.tables.models.now self.models c.open.ensures.answer;
       real = λ w h. all_real w;
     }

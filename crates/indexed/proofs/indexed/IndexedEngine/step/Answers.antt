@@ -9,4 +9,4 @@ pub returns : goal.returns
 returns c =
     let self = c.args.self.now in
     of_the_same (λ nodes models. Answers (residue (ModelRest StandsFor nodes models c.args.number c.args.state) (c.args.letter ∷ [])) (ModelRest StandsFor nodes models c.args.number) c.step.result)
-    self.table.table.nodes.now self.sealed.nodes.now self.nodes self.table.table.models.now self.sealed.models.now self.models c.step.ensures
+    self.table.table.tables.nodes.now self.sealed.engine.tables.nodes.now self.nodes self.table.table.tables.models.now self.sealed.engine.tables.models.now self.models c.step.ensures

@@ -7,8 +7,8 @@ use Rattle.positions.proofs.table.FollowTable.fill.Goals as goal
 
 pub invariant_of-self : goal.invariant_of-self
 invariant_of-self g c =
-    let nodes = c.args.nodes.now in
-    let models = c.args.models.now in
+    let nodes = c.args.tables.nodes.now in
+    let models = c.args.tables.models.now in
     let rows = c.replace-rows.result.now in
     let atoms = c.replace-atoms.result.now in
     let is_rows : rows ≡ c.write.new.self.rows.now = ap (λ r. r.now) c.replace-rows.ensures.value in
@@ -29,8 +29,8 @@ invariant_of-self g c =
 
 pub returns : goal.returns
 returns g c =
-    let nodes = c.args.nodes.now in
-    let models = c.args.models.now in
+    let nodes = c.args.tables.nodes.now in
+    let models = c.args.tables.models.now in
     let rows = c.replace-rows.result.now in
     let atoms = c.replace-atoms.result.now in
     let is_rows : rows ≡ c.write.new.self.rows.now = ap (λ r. r.now) c.replace-rows.ensures.value in
@@ -42,10 +42,9 @@ returns g c =
       answer = c.if-not-has_room.ensures;
       made = (
         follow_rows g.L.Alphabet.stands (λ a. (g.L.Alphabet.sample a, g.met.L.Alphabet.sampled a)) nodes models rows (rows_followed nodes models rows all-rows wide) (rows_blank nodes models rows all-rows),
-        ap length is_rows ∙ c.write.ensures.room.0,
         subst (Atoms nodes models) (sym is_atoms) c.write.ensures.atoms,
-        ap length is_atoms ∙ c.write.ensures.room.1,
       );
+      room = (ap length is_rows ∙ c.write.ensures.room.0, ap length is_atoms ∙ c.write.ensures.room.1);
       left = (ap (λ r. r.now) c.replace-rows.ensures.after, ap (λ r. r.now) c.replace-atoms.ensures.after);
       tables = (refl, refl);
       languages = speaks g.L.Alphabet.stands nodes models;

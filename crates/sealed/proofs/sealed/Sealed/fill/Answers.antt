@@ -10,6 +10,6 @@ pub returns : goal.returns
 returns c = record {
   answer = c.in_ok-check.ensures;
   tables = (refl, refl);
-  languages = speaks StandsFor c.args.nodes.now c.args.models.now;
+  languages = speaks StandsFor c.args.tables.nodes.now c.args.tables.models.now;
   states = λ number state w. (λ h. h, λ h. h);
 }

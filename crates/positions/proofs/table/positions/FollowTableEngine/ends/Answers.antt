@@ -1,10 +1,16 @@
+use Rattle.std.proofs.Common.{◌≡◌, ℕ, ◌%◌, false, eqb, rules}
 use mir.Facts.{Fits-lt-pow}
-use Rattle.positions.proofs.Reading.{ends_answer}
+use Rattle.std.specs.Option.{MatchOption}
+use Rattle.models.proofs.Options.{match_then}
+use Rattle.positions.specs.Walks.{Union}
+use Rattle.positions.proofs.Reading.{ends_found}
 use Rattle.positions.proofs.table.positions.FollowTableEngine.ends.Goals as goal
 
-pub returns-in-Some : goal.returns-in-Some
-returns-in-Some g c =
+pub returns : goal.returns
+returns g c =
     let self = c.args.self.now in
-    let based = c.in-Some.ensures in
-    ends_answer g.L.Alphabet.stands self.nodes.now self.models.now self.rows.now c.args.number c.in-Some.base based.0 based.2 self.followed self.blank
-    c.args.state c.union_of.result (Fits-lt-pow c.ranges.state) c.union_of.ensures
+    let b = c.is_some_and.result in
+    let ended : MatchOption c.base_of.result (b ≡ false) (λ base. (u : ℕ) × Union self.rows.now base c.args.state u × (b ≡ eqb (u % 2) 1)) =
+    match_then _ c.base_of.result c.is_some_and.ensures (λ base h. search rules) in
+    ends_found g.L.Alphabet.stands self.tables.nodes.now self.tables.models.now self.rows.now c.args.number self.followed self.blank c.args.state (Fits-lt-pow c.ranges.state)
+    c.base_of.result c.base_of.ensures b ended
