@@ -4,12 +4,12 @@ use Rattle.models.specs.Expressions.{Exp, empty, atom, seq, alt, star, plus, opt
 use Rattle.models.specs.Marks.{Mark, ReadsMarked, UpTo, Follows, EndsAfter}
 use Rattle.models.specs.Readers.{Numbered}
 use Rattle.models.specs.Rests.{Rest}
-use Rattle.bits.specs.Sets.{Has, singleton, guarded}
+use Rattle.bits.specs.Sets.{Has, has, singleton, guarded}
 use Rattle.bits.proofs.Bits.{has_or, has_or_l, has_or_r, has_guarded, guarded_has, single_has}
 use Rattle.models.proofs.Derivation.{Iff}
 use Rattle.models.proofs.Numbering.{leaves, length_leaves, numbered_one, numbered_some}
 use Rattle.models.proofs.Rests.{rest_mono, rest_some, rest_live, word}
-use Rattle.derivative.specs.Derivation.{member, ends_in}
+use Rattle.derivative.specs.Derivation.{ends_in}
 use Rattle.derivative.proofs.Knowing.{iff_member, iff_and, iff_or, nullable_computed, ends_computed}
 use Rattle.models.specs.declared.node.Model.{Model}
 use Rattle.models.specs.declared.node.Node.{Node}
@@ -96,12 +96,12 @@ module _ {A X : Type 0} (stands : A → X → Type 0) (alive : (a : A) → (x : 
     bit p q x n small (inl h) =
         let same : n ≡ q = sym h.1.1.2.1 in
         let first = subst (λ v. Has v n) (first_same 0 p 0 e) h.1.0 in
-        let begin : member (singleton p) 0 ≡ true = (iff_member (singleton p) 0).1 (subst (λ k. Has (singleton k) 0) (sym h.0) refl) in
-        subst (Has (row e p)) same (next_row e few p n (has_or_l (guarded (member (singleton p) 0) (one p 0 e).first) (one p 0 e).next n (guarded_has (member (singleton p) 0) (one p 0 e).first n (begin, first))))
+        let begin : has (singleton p) 0 ≡ true = (iff_member (singleton p) 0).1 (subst (λ k. Has (singleton k) 0) (sym h.0) refl) in
+        subst (Has (row e p)) same (next_row e few p n (has_or_l (guarded (has (singleton p) 0) (one p 0 e).first) (one p 0 e).next n (guarded_has (has (singleton p) 0) (one p 0 e).first n (begin, first))))
     bit p q x n small (inr h) =
         let same : n ≡ q = sym h.1.2.1 in
         let (r, is, g) = h.0 in
-        subst (Has (row e p)) same (next_row e few p n (has_or_r (guarded (member (singleton p) 0) (one p 0 e).first) (one p 0 e).next n (subst (λ k. Has (one k 0 e).next n) is g)))
+        subst (Has (row e p)) same (next_row e few p n (has_or_r (guarded (has (singleton p) 0) (one p 0 e).first) (one p 0 e).next n (subst (λ k. Has (one k 0 e).next n) is g)))
 
     pub back : (p q : ℕ) (x : X) (v : List (Mark X)) → p ≤ 63 → Going (p ≡ 0) (λ n. n ≡ p) ((x, q) ∷ v) → Has (row e p) q
     back p q x v small h =
@@ -111,9 +111,9 @@ module _ {A X : Type 0} (stands : A → X → Type 0) (alive : (a : A) → (x : 
     -- An atom in a row that reads a marked letter with its number.
     pub on_row : (p q : ℕ) (x : X) → 0 < q → Has (row e p) q → Q (x, q) q → On (p ≡ 0) (λ n. n ≡ p) (x, q) q
     on_row p q x some h reads =
-        elim (has_or (guarded (member (singleton p) 0) (one p 0 e).first) (one p 0 e).next q (row_next e few p q some h)) [
+        elim (has_or (guarded (has (singleton p) 0) (one p 0 e).first) (one p 0 e).next q (row_next e few p q some h)) [
           | inl g ↦
-              let t = has_guarded (member (singleton p) 0) (one p 0 e).first q g in
+              let t = has_guarded (has (singleton p) 0) (one p 0 e).first q g in
               inl (sym (single_is p 0 ((iff_member (singleton p) 0).0 t.0)), (subst (λ v. Has v q) (first_same p 0 0 e) t.1, reads))
           | inr g ↦ inr ((p, refl, g), reads)
         ]
@@ -141,9 +141,9 @@ module _ {A X : Type 0} (stands : A → X → Type 0) (alive : (a : A) → (x : 
     row_stops p small = (
       λ h.
           let going : Going (p ≡ 0) (λ n. n ≡ p) [] =
-          elim ((iff_or (member (singleton p) 0 && (one p 0 e).nullable) (one p 0 e).ends).0 ((row_end e few p).0 h)) [
+          elim ((iff_or (has (singleton p) 0 && (one p 0 e).nullable) (one p 0 e).ends).0 ((row_end e few p).0 h)) [
             | inl m ↦
-                let g = (iff_and (member (singleton p) 0) (one p 0 e).nullable).0 m in
+                let g = (iff_and (has (singleton p) 0) (one p 0 e).nullable).0 m in
                 inl (sym (single_is p 0 ((iff_member (singleton p) 0).0 g.0)), (nullable_computed (ReadsMarked stands) (singleton p) everything e 0).0 g.1)
             | inr m ↦ inr (rest_mono (ReadsMarked stands) e 0 (λ n lo hi b. single_is p n b) [] ((ends_computed (ReadsMarked stands) (singleton p) everything e 0).0 m))
           ] in
@@ -157,11 +157,11 @@ module _ {A X : Type 0} (stands : A → X → Type 0) (alive : (a : A) → (x : 
         stop : Going (p ≡ 0) (λ n. n ≡ p) [] → ends_in (singleton p) (one p 0 e) ≡ true
         stop (inl h) =
             let m = (nullable_computed (ReadsMarked stands) (singleton p) everything e 0).1 h.1 in
-            let begin : member (singleton p) 0 ≡ true = (iff_member (singleton p) 0).1 (subst (λ k. Has (singleton k) 0) (sym h.0) refl) in
-            (iff_or (member (singleton p) 0 && (one p 0 e).nullable) (one p 0 e).ends).1 (inl ((iff_and (member (singleton p) 0) (one p 0 e).nullable).1 (begin, m)))
+            let begin : has (singleton p) 0 ≡ true = (iff_member (singleton p) 0).1 (subst (λ k. Has (singleton k) 0) (sym h.0) refl) in
+            (iff_or (has (singleton p) 0 && (one p 0 e).nullable) (one p 0 e).ends).1 (inl ((iff_and (has (singleton p) 0) (one p 0 e).nullable).1 (begin, m)))
         stop (inr h) =
             let m = (ends_computed (ReadsMarked stands) (singleton p) everything e 0).1 (rest_mono (ReadsMarked stands) e 0 (λ n lo hi b. subst (Has (singleton p)) (sym b) (single_has p (omega arith))) [] h) in
-            (iff_or (member (singleton p) 0 && (one p 0 e).nullable) (one p 0 e).ends).1 (inr m)
+            (iff_or (has (singleton p) 0 && (one p 0 e).nullable) (one p 0 e).ends).1 (inr m)
 
   -- A table whose rows were written is a follow table.
   pub follow_rows : (nodes : List (Node A)) (models : List Model) (rows : List ℕ) → Followed nodes models rows → Blank nodes models rows → FollowRows stands nodes models rows

@@ -7,7 +7,7 @@ use Rattle.models.specs.Expressions.{Exp, atoms, Words}
 use Rattle.models.specs.Folds.{code}
 use Rattle.models.specs.Readers.{atoms_of, Numbered}
 use Rattle.models.specs.Rests.{Rest}
-use Rattle.bits.specs.Sets.{Has, singleton, guarded}
+use Rattle.bits.specs.Sets.{Has, has, singleton, guarded}
 use Rattle.models.specs.Tables.{Coded, Left, ModelWords, ModelRest}
 use Rattle.models.specs.declared.node.Model.{Model}
 use Rattle.models.specs.declared.node.Node.{Node}
@@ -17,7 +17,7 @@ use Rattle.models.proofs.Derivation.{Iff}
 use Rattle.models.proofs.ModelTables.{coded_or_not}
 use Rattle.models.proofs.Numbering.{leaves, length_leaves, numbered_in, numbered_one, numbered_some, coded_leaves}
 use Rattle.models.proofs.Rests.{rest_mono, rest_or, rest_some, rest_guard, rest_each, word}
-use Rattle.derivative.specs.Derivation.{member, after_state, ends_in}
+use Rattle.derivative.specs.Derivation.{after_state, ends_in}
 use Rattle.derivative.proofs.Knowing.{iff_member, iff_and, iff_or, iff_then, nullable_computed, ends_computed}
 use Rattle.derivative.proofs.Stepping.{ends_decided, begin_some, step_none, step_some}
 use Rattle.positions.specs.Following.{everything, row, Followed, Blank, Placed, Spare}
@@ -35,8 +35,8 @@ module _ {A : Type 0} (e : Exp A) (few : atoms e ≤ 63) where
   pub after_in : (p n : ℕ) → Has (after_state (singleton p) (one p 0 e)) n → (0 < n) × (n ≤ 0 + atoms e)
   after_in p n h =
       let d = split {A = A} {X = Unit {0}} (λ k a u. Unit {0}) tt (λ q. q ≡ p) (λ k. Unit {0}) e 0 (omega arith) (λ k a m. (λ u. tt, λ u. tt)) in
-      elim (has_or (guarded (member (singleton p) 0) (one p 0 e).first) (one p 0 e).next n h) [
-        | inl k ↦ d.first_in n (subst (λ t. Has t n) (first_same p 0 0 e) (has_guarded (member (singleton p) 0) (one p 0 e).first n k).1, tt)
+      elim (has_or (guarded (has (singleton p) 0) (one p 0 e).first) (one p 0 e).next n h) [
+        | inl k ↦ d.first_in n (subst (λ t. Has t n) (first_same p 0 0 e) (has_guarded (has (singleton p) 0) (one p 0 e).first n k).1, tt)
         | inr k ↦ d.next_in n ((p, refl, k), tt)
       ]
 
@@ -84,9 +84,9 @@ module _ {A X : Type 0} (stands : A → X → Type 0) (nodes : List (Node A)) (m
       λ h.
           let (p, sp, r) = (union 0).0 h in
           let k = (row_end e few p).0 (subst (λ t. Has t 0) (row_is p (has_small s p fits sp)) r) in
-          elim ((iff_or (member (singleton p) 0 && (one p 0 e).nullable) (one p 0 e).ends).0 k) [
+          elim ((iff_or (has (singleton p) 0 && (one p 0 e).nullable) (one p 0 e).ends).0 k) [
             | inl m ↦
-                let g = (iff_and (member (singleton p) 0) (one p 0 e).nullable).0 m in
+                let g = (iff_and (has (singleton p) 0) (one p 0 e).nullable).0 m in
                 let z = single_is p 0 ((iff_member (singleton p) 0).0 g.0) in
                 inl (subst (Has s) (sym z) sp, (nullable_computed (λ n. stands) (singleton p) everything e 0).0 g.1)
             | inr m ↦
@@ -96,13 +96,13 @@ module _ {A X : Type 0} (stands : A → X → Type 0) (nodes : List (Node A)) (m
       elim [
         | inl h ↦
             let m = (nullable_computed (λ n. stands) (singleton 0) everything e 0).1 h.1 in
-            let t = (iff_or (member (singleton 0) 0 && (one 0 0 e).nullable) (one 0 0 e).ends).1 (inl ((iff_and (member (singleton 0) 0) (one 0 0 e).nullable).1 (refl, m))) in
+            let t = (iff_or (has (singleton 0) 0 && (one 0 0 e).nullable) (one 0 0 e).ends).1 (inl ((iff_and (has (singleton 0) 0) (one 0 0 e).nullable).1 (refl, m))) in
             (union 0).1 (0, h.0, subst (λ r. Has r 0) (sym (row_is 0 (omega arith))) ((row_end e few 0).1 t))
         | inr h ↦
             let (p, sp, k) = rest_each (λ n. stands) e 0 [] h in
             let lt = has_small s p fits sp in
             let m = (ends_computed (λ n. stands) (singleton p) everything e 0).1 (rest_mono (λ n. stands) e 0 (λ n lo hi b. subst (Has (singleton p)) (sym b) (single_has p lt)) [] k) in
-            let t = (iff_or (member (singleton p) 0 && (one p 0 e).nullable) (one p 0 e).ends).1 (inr m) in
+            let t = (iff_or (has (singleton p) 0 && (one p 0 e).nullable) (one p 0 e).ends).1 (inr m) in
             (union 0).1 (p, sp, subst (λ r. Has r 0) (sym (row_is p lt)) ((row_end e few p).1 t))
       ],
     )
@@ -153,9 +153,9 @@ module _ {A X : Type 0} (stands : A → X → Type 0) (nodes : List (Node A)) (m
             let inside = kept_in n h in
             let (p, sp, r) = kept_row n h in
             let q = reads_q n (omega (arith, inside.1)) inside.0 ((kept n).0 h).1 in
-            elim (has_or (guarded (member (singleton p) 0) (one p 0 e).first) (one p 0 e).next n (row_next e few p n inside.0 r)) [
+            elim (has_or (guarded (has (singleton p) 0) (one p 0 e).first) (one p 0 e).next n (row_next e few p n inside.0 r)) [
               | inl m ↦
-                  let g = has_guarded (member (singleton p) 0) (one p 0 e).first n m in
+                  let g = has_guarded (has (singleton p) 0) (one p 0 e).first n m in
                   let z = single_is p 0 ((iff_member (singleton p) 0).0 g.0) in
                   inl (subst (Has s) (sym z) sp, (subst (λ t. Has t n) (first_same p 0 0 e) g.1, q))
               | inr m ↦ inr ((p, sp, m), q)
@@ -172,10 +172,10 @@ module _ {A X : Type 0} (stands : A → X → Type 0) (nodes : List (Node A)) (m
             )
 
         reached_kept : (n : ℕ) → Reached n → Has k n
-        reached_kept n (inl h) = keeps n 0 h.0 (has_or_l (guarded (member (singleton 0) 0) (one 0 0 e).first) (one 0 0 e).next n h.1.0) h.1.1
+        reached_kept n (inl h) = keeps n 0 h.0 (has_or_l (guarded (has (singleton 0) 0) (one 0 0 e).first) (one 0 0 e).next n h.1.0) h.1.1
         reached_kept n (inr h) =
             let (p, sp, m) = h.0 in
-            keeps n p sp (has_or_r (guarded (member (singleton p) 0) (one p 0 e).first) (one p 0 e).next n m) h.1
+            keeps n p sp (has_or_r (guarded (has (singleton p) 0) (one p 0 e).first) (one p 0 e).next n m) h.1
 
         law : Split (λ n. stands) x (Has s) Q e 0
         law = let f = few in split (λ n. stands) x (Has s) Q e 0 (omega arith) tells
@@ -206,13 +206,13 @@ module _ {A X : Type 0} (stands : A → X → Type 0) (nodes : List (Node A)) (m
         go : row e 0 ≡ 0 → (w : List X) → Words stands e w → ⊥
         go z [] r =
             let m = (nullable_computed (λ n. stands) (singleton 0) everything e 0).1 r in
-            let t = (iff_or (member (singleton 0) 0 && (one 0 0 e).nullable) (one 0 0 e).ends).1 (inl ((iff_and (member (singleton 0) 0) (one 0 0 e).nullable).1 (refl, m))) in
+            let t = (iff_or (has (singleton 0) 0 && (one 0 0 e).nullable) (one 0 0 e).ends).1 (inl ((iff_and (has (singleton 0) 0) (one 0 0 e).nullable).1 (refl, m))) in
             has_none 0 (subst (λ v. Has v 0) z ((row_end e few 0).1 t))
         go z (x ∷ w) r =
             let small = few in
             let d = split (λ n. stands) x (λ n. ⊥) (λ n. (a : A) × Numbered (leaves e) 0 n a × stands a x) e 0 (omega arith) (λ n a k. (λ h. subst (λ c. stands c x) (numbered_one (leaves e) 0 n h.0 a h.1 k) h.2, λ h. (a, k, h))) in
             let (n, lo, hi, f) = rest_some (λ n. stands) e 0 w ((d.first_is w).1 r) in
-            has_none n (subst (λ v. Has v n) z (next_row e few 0 n (has_or_l (guarded (member (singleton 0) 0) (one 0 0 e).first) (one 0 0 e).next n f.0)))
+            has_none n (subst (λ v. Has v n) z (next_row e few 0 n (has_or_l (guarded (has (singleton 0) 0) (one 0 0 e).first) (one 0 0 e).next n f.0)))
 
 -- The answers of the engine, whether or not the number has an expression.
 module _ {A X : Type 0} (stands : A → X → Type 0) (nodes : List (Node A)) (models : List Model) (rows : List ℕ) (number base : ℕ) (from_one : 1 ≤ number) (starts : base ≡ 64 * (number - 1)) (followed : Followed nodes models rows) (blank : Blank nodes models rows) where

@@ -9,13 +9,13 @@ use Rattle.models.specs.Folds.{value}
 use Rattle.models.specs.Marks.{Mark, MarkedWords, ReadsMarked, Ambiguous}
 use Rattle.models.specs.Readers.{Numbered}
 use Rattle.models.specs.Rests.{Rest}
-use Rattle.bits.specs.Sets.{Has, singleton, guarded}
+use Rattle.bits.specs.Sets.{Has, has, singleton, guarded}
 use Rattle.bits.proofs.Bits.{has_or, has_or_l, has_or_r, has_none, has_and, and_has, has_single, single_has, has_guarded, guarded_has}
 use Rattle.models.proofs.Derivation.{Iff}
 use Rattle.models.proofs.Joins.{then_map, then_cons, many_cons}
 use Rattle.models.proofs.Numbering.{leaves, length_leaves, numbered_in, numbered_one, numbered_append}
 use Rattle.models.proofs.Rests.{rest_mono, rest_some, rest_live, word}
-use Rattle.derivative.specs.Derivation.{member, derivation, after_state}
+use Rattle.derivative.specs.Derivation.{derivation, after_state}
 use Rattle.derivative.proofs.Knowing.{Knows, Agrees, computed, iff_member}
 use Rattle.derivative.proofs.Stepping.{reached_in}
 use Rattle.sealing.specs.Forks.{After, Forks}
@@ -307,7 +307,7 @@ module _ (M : ℕ → Type 0) where
         let d' = value (derivation from r') 0 e in
         let d = value (derivation from r) 0 e in
         let (ln, le, lf, lx) = cut_derived e 0 in
-        cut_or (guarded (member from 0) d'.first) (guarded (member from 0) d.first) d'.next d.next (cut_guarded (member from 0) (member from 0) d'.first d.first refl lf) lx
+        cut_or (guarded (has from 0) d'.first) (guarded (has from 0) d.first) d'.next d.next (cut_guarded (has from 0) (has from 0) d'.first d.first refl lf) lx
 
 -- A step by a mark: from atom p, what the fold computes for one atom as the only reader.
 module _ {A X : Type 0} (stands : A → X → Type 0) (alive : (a : A) → (x : X) × stands a x) (e : Exp A) (few : atoms e ≤ 63) (p : ℕ) (low : p ≤ 63) (x : X) (q r : ℕ) (agrees : Agrees (ReadsMarked stands) (x, q) (singleton p) r (leaves e) 0) where
@@ -319,9 +319,9 @@ module _ {A X : Type 0} (stands : A → X → Type 0) (alive : (a : A) → (x : 
   mark_goes h =
       let s = singleton p in
       let d = value (derivation (singleton p) r) 0 e in
-      elim (has_or (guarded (member s 0) d.first) d.next q h) [
+      elim (has_or (guarded (has s 0) d.first) d.next q h) [
         | inl k ↦
-            let (g, f) = has_guarded (member s 0) d.first q k in
+            let (g, f) = has_guarded (has s 0) d.first q k in
             let (lo, hi) = mark_knows.first_in q f in
             let (v, l) = rest_live (ReadsMarked stands) (marks_alive stands alive) e 0 (Has d.first) q lo hi f in
             (v, inl (sym (has_single p 0 (omega arith) ((iff_member s 0).0 g)), (mark_knows.first_is v).0 l))
@@ -338,13 +338,13 @@ module _ {A X : Type 0} (stands : A → X → Type 0) (alive : (a : A) → (x : 
       let d = value (derivation (singleton p) r) 0 e in
       let (n, lo, hi, k) = rest_some (ReadsMarked stands) e 0 v ((mark_knows.first_is v).1 h) in
       let here : Has (singleton p) 0 = subst (λ m. Has (singleton m) 0) (sym z) (single_has 0 (omega arith)) in
-      (n, has_or_l (guarded (member s 0) d.first) d.next n (guarded_has (member s 0) d.first n ((iff_member s 0).1 here, k)))
+      (n, has_or_l (guarded (has s 0) d.first) d.next n (guarded_has (has s 0) d.first n ((iff_member s 0).1 here, k)))
   mark_came v (inr h) =
       let s = singleton p in
       let d = value (derivation (singleton p) r) 0 e in
       let all = rest_mono (ReadsMarked stands) e 0 {T = Has (singleton p)} (λ n lo hi is. subst (Has (singleton p)) (sym is) (single_has p (omega arith))) ((x, q) ∷ v) h in
       let (n, lo, hi, k) = rest_some (ReadsMarked stands) e 0 v ((mark_knows.next_is v).1 all) in
-      (n, has_or_r (guarded (member s 0) d.first) d.next n k)
+      (n, has_or_r (guarded (has s 0) d.first) d.next n k)
 
 module _ {A X : Type 0} (stands : A → X → Type 0) (alive : (a : A) → (x : X) × stands a x) (e : Exp A) (few : atoms e ≤ 63) (p : ℕ) (low : p ≤ 63) where
   -- The atoms that a step by a letter reaches are those that may read it next.
