@@ -10,7 +10,7 @@ use derivative::Derivatives;
 use engine::{ContentAtom, Engine, Letter, match_word};
 use models::{Model, Node, Tables};
 use positions::{BlankColumnTable, BlankTable, ContentTable, FollowTable};
-use samples::{LETTERS, LONGEST, Sample, WEEK_MODELS, WEEK_NODES, write_sequence, write_star};
+use samples::{Sample, WEEK_MODELS, WEEK_NODES, sequence, star};
 use speed::{speed, steps_made};
 use std::{env, io};
 
@@ -26,10 +26,9 @@ fn print_engine<E: Engine<Letter = Letter>>(
     word: &[Letter],
     timed: bool,
 ) -> io::Result<()> {
-    let steps = match engine.open(number) {
-        Some(first) => steps_made(engine, number, first, word),
-        None => 0,
-    };
+    let steps = engine
+        .open(number)
+        .map_or(0, |first| steps_made(engine, number, first, word));
     let accepted = match_word(engine, number, word);
     print!(rt; "  {name:<12} {steps:>2} steps, accepted {accepted:>5}")?;
     if timed && accepted {
@@ -40,28 +39,31 @@ fn print_engine<E: Engine<Letter = Letter>>(
 }
 
 // What the three engines over the same tables do with each word.
-fn print_samples<'n, 'm, 'r, 'a, 's, 'b, 'c>(
+fn print_samples<Slow, Rows, Columns>(
     rt: &HostRuntime,
-    slow: &Derivatives<'n, 'm, Letter>,
-    rows: &FollowTable<'n, 'm, 'r, 'a, Letter>,
-    columns: &ContentTable<'n, 'm, 's, 'b, 'c>,
+    slow: &Slow,
+    rows: &Rows,
+    columns: &Columns,
     samples: &[Sample],
     timed: bool,
-) -> io::Result<()> {
+) -> io::Result<()>
+where
+    Slow: Engine<Letter = Letter>,
+    Rows: Engine<Letter = Letter>,
+    Columns: Engine<Letter = Letter>,
+{
     for sample in samples {
-        let mut word = [Letter::Text; LETTERS];
-        let letters = sample.write(&mut word).min(LETTERS);
+        let word = sample.word(rt.alloc())?;
         let number = sample.number();
-        println!(rt; "{}, {letters} letters", sample.name())?;
-        let word = &word[0..letters];
-        print_engine(rt, "derivative", slow, number, word, timed)?;
-        print_engine(rt, "follow rows", rows, number, word, timed)?;
-        print_engine(rt, "and columns", columns, number, word, timed)?;
+        println!(rt; "{sample}, {} letters", word.len())?;
+        print_engine(rt, "derivative", slow, number, &word, timed)?;
+        print_engine(rt, "follow rows", rows, number, &word, timed)?;
+        print_engine(rt, "and columns", columns, number, &word, timed)?;
     }
     Ok(())
 }
 
-// Fills the tables of the models, and runs the words.
+// Fills the follow tables of the models, and runs the words.
 fn run<'n, 'm, 'r, 'a, 's, 'b, 'c>(
     rt: &HostRuntime,
     tables: Tables<'n, 'm, ContentAtom>,
@@ -82,8 +84,7 @@ fn run<'n, 'm, 'r, 'a, 's, 'b, 'c>(
 // Lends the places, and runs the words of the models.
 fn compare(
     rt: &HostRuntime,
-    nodes: &[Node<ContentAtom>],
-    models: &[Model],
+    tables: Tables<'_, '_, ContentAtom>,
     samples: &[Sample],
     timed: bool,
 ) -> io::Result<()> {
@@ -103,24 +104,32 @@ fn compare(
         },
         columns: &mut columns,
     };
-    run(
-        rt,
-        Tables { nodes, models },
-        &mut blank,
-        &mut sorted,
-        samples,
-        timed,
-    )
+    run(rt, tables, &mut blank, &mut sorted, samples, timed)
+}
+
+// Runs the word of one model, which has all the nodes.
+fn compare_one(
+    rt: &HostRuntime,
+    nodes: &[Node<ContentAtom>],
+    sample: Sample,
+    timed: bool,
+) -> io::Result<()> {
+    let models = [Model {
+        start: 0,
+        end: nodes.len(),
+    }];
+    let tables = Tables {
+        nodes,
+        models: &models,
+    };
+    compare(rt, tables, &[sample], timed)
 }
 
 // The star of an alternative of so many elements, and their sequence.
 fn compare_long(rt: &HostRuntime, last: u8, timed: bool) -> io::Result<()> {
-    let mut nodes = [Node::Unused; LONGEST];
     println!(rt; "models of {last} atoms")?;
-    let star = write_star(&mut nodes, last);
-    compare(rt, &nodes, &[star], &[Sample::InTurn(last)], timed)?;
-    let sequence = write_sequence(&mut nodes, last);
-    compare(rt, &nodes, &[sequence], &[Sample::Once(last)], timed)
+    compare_one(rt, &star(rt.alloc(), last)?, Sample::InTurn(last), timed)?;
+    compare_one(rt, &sequence(rt.alloc(), last)?, Sample::Once(last), timed)
 }
 
 // Whether the command line asks for the time. No other word may stand on it.
@@ -148,7 +157,11 @@ fn main(rt: HostRuntime) -> io::Result<()> {
         Sample::Correction,
         Sample::Note,
     ];
-    compare(&rt, &WEEK_NODES, &WEEK_MODELS, &samples, timed)?;
+    let week = Tables {
+        nodes: &WEEK_NODES,
+        models: &WEEK_MODELS,
+    };
+    compare(&rt, week, &samples, timed)?;
     compare_long(&rt, 3, timed)?;
     compare_long(&rt, 63, timed)
 }

@@ -1,9 +1,11 @@
-// The models that are measured: those of a week, and long ones built by loops.
+// The models that are measured, those of a week and long ones, and the words that are read by them.
 
-ghost use Rattle.std.specs.Prelude.{◌≡◌, ◌+◌, ◌-◌, ◌*◌, ◌≤◌, length, slice_set};
+ghost use Rattle.std.specs.Prelude.{◌≡◌, ◌+◌, ◌-◌, ◌*◌, length, IfOk};
 
 use engine::{ContentAtom, Letter};
 use models::{Model, Node};
+use std::alloc::{AllocError, Global};
+use std::fmt;
 
 const SHEET: u8 = 1;
 
@@ -72,58 +74,45 @@ const SHEET_CHILDREN: [u8; 20] = [
     SHIFT, SHIFT, CORRECTION, CORRECTION, CORRECTION, CORRECTION, LOCK,
 ];
 
-// Room for the nodes of 63 atoms, the nodes that join them, and one more.
-pub const LONGEST: usize = 128;
+// How many letters a long word has.
+const LETTERS: usize = 63;
 
-// Room for the letters of a word.
-pub const LETTERS: usize = 63;
-
-// Writes a node where there is room.
-fn put(nodes: &mut [Node<ContentAtom>], at: usize, node: Node<ContentAtom>)
-    ensures { nodes.new ≡ slice_set nodes.old at node }
+// The nodes of the elements from 1 to the last one, each joined to those before it.
+fn joined(
+    alloc: Global,
+    last: u8,
+    join: Node<ContentAtom>,
+) -> Result<Vec<Node<ContentAtom>>, AllocError>
+    ensures { IfOk result (λ nodes. length nodes.items ≡ 2 * last - 1) }
 {
-    if at < nodes.len() {
-        nodes[at] = node;
+    let mut nodes = Vec::new(alloc);
+    for before in 0..last {
+        nodes.push(Node::Atom(ContentAtom::Element(before + 1)))?;
+        if before > 0 {
+            nodes.push(join)?;
+        }
     }
+    Ok(nodes)
 }
 
-// Writes the elements from 1 to the last one, each joined to those before it, and says where they end.
-fn chain(nodes: &mut [Node<ContentAtom>], last: u8, join: Node<ContentAtom>) -> usize
-    ensures { result ≡ 2 * last - 1 }
+// The star of the alternative of the elements from 1 to the last one.
+pub fn star(alloc: Global, last: u8) -> Result<Vec<Node<ContentAtom>>, AllocError>
+    ensures { IfOk result (λ nodes. length nodes.items ≡ (2 * last - 1) + 1) }
 {
-    put(nodes, 0, Node::Atom(ContentAtom::Element(1)));
-    for number in 1..last {
-        let at = 2 * number as usize;
-        put(nodes, at - 1, Node::Atom(ContentAtom::Element(number + 1)));
-        put(nodes, at, join);
-    }
-    (2 * last as usize).saturating_sub(1)
+    let mut nodes = joined(alloc, last, Node::Alt)?;
+    nodes.push(Node::Star)?;
+    Ok(nodes)
 }
 
-// Writes the star of the alternative of the elements from 1 to the last one.
-pub fn write_star(nodes: &mut [Node<ContentAtom>], last: u8) -> Model
-    ensures { (result.start ≡ 0) × (result.end ≡ (2 * last - 1) + 1) }
+// The sequence of the elements from 1 to the last one.
+pub fn sequence(alloc: Global, last: u8) -> Result<Vec<Node<ContentAtom>>, AllocError>
+    ensures { IfOk result (λ nodes. length nodes.items ≡ 2 * last - 1) }
 {
-    let end = chain(nodes, last, Node::Alt);
-    put(nodes, end, Node::Star);
-    Model {
-        start: 0,
-        end: end + 1,
-    }
-}
-
-// Writes the sequence of the elements from 1 to the last one.
-pub fn write_sequence(nodes: &mut [Node<ContentAtom>], last: u8) -> Model
-    ensures { (result.start ≡ 0) × (result.end ≡ 2 * last - 1) }
-{
-    Model {
-        start: 0,
-        end: chain(nodes, last, Node::Seq),
-    }
+    joined(alloc, last, Node::Seq)
 }
 
 // A word that the engines read.
-#[derive(Clone, Copy)]
+#[derive(Clone, Copy, Debug)]
 pub enum Sample {
     Sheet,
     SheetWithoutShift,
@@ -134,10 +123,10 @@ pub enum Sample {
     Once(u8),
 }
 
-impl Sample {
-    // What the word is a word of, or where it goes wrong.
-    pub fn name(self) -> &'static str {
-        match self {
+// What the word is a word of, or where it goes wrong.
+impl fmt::Display for Sample {
+    fn fmt<W: fmt::Write>(&self, f: &mut fmt::Formatter<W>) -> fmt::Result {
+        f.write_str(match self {
             Sample::Sheet => "sheet",
             Sample::SheetWithoutShift => "sheet, no shift",
             Sample::Shift => "shift",
@@ -145,9 +134,11 @@ impl Sample {
             Sample::Note => "note",
             Sample::InTurn(_) => "star of an alternative",
             Sample::Once(_) => "sequence",
-        }
+        })
     }
+}
 
+impl Sample {
     // The number of the model.
     pub fn number(self) -> u8 {
         match self {
@@ -158,53 +149,45 @@ impl Sample {
         }
     }
 
-    // Writes the word, and says how many letters it has.
-    pub fn write(self, word: &mut [Letter]) -> usize {
+    // The letters of the word.
+    pub fn word(self, alloc: Global) -> Result<Vec<Letter>, AllocError> {
         match self {
-            Sample::Sheet => letters(word, &SHEET_CHILDREN),
-            Sample::SheetWithoutShift => letters(word, &[WEEK, LOCK]),
-            Sample::Shift => letters(word, &[STAFF, HOURS]),
-            Sample::Correction => letters(word, &[STAFF, HOURS, NOTE]),
-            Sample::Note => note(word),
-            Sample::InTurn(last) => in_turn(word, last),
-            Sample::Once(last) => in_turn(word, last).min(last as usize),
+            Sample::Sheet => elements(alloc, &SHEET_CHILDREN),
+            Sample::SheetWithoutShift => elements(alloc, &[WEEK, LOCK]),
+            Sample::Shift => elements(alloc, &[STAFF, HOURS]),
+            Sample::Correction => elements(alloc, &[STAFF, HOURS, NOTE]),
+            Sample::Note => note(alloc),
+            Sample::InTurn(last) => (1..=last)
+                .cycle()
+                .take(LETTERS)
+                .map(Letter::Element)
+                .collect(alloc),
+            Sample::Once(last) => (1..=last).map(Letter::Element).collect(alloc),
         }
     }
 }
 
-// The elements from 1 to the last one, again and again.
-fn in_turn(word: &mut [Letter], last: u8) -> usize
-    ensures { result ≡ length word.old }
+// The elements of these numbers.
+fn elements(alloc: Global, numbers: &[u8]) -> Result<Vec<Letter>, AllocError>
+    ensures { IfOk result (λ word. length word.items ≡ length numbers.now) }
 {
-    let mut number = 0;
-    for i in 0..word.len() {
-        number = if number < last { number + 1 } else { 1 };
-        word[i] = Letter::Element(number);
-    }
-    word.len()
-}
-
-// The elements of these numbers, as far as there is room.
-fn letters(word: &mut [Letter], numbers: &[u8]) -> usize
-    ensures { result ≤ length word.old }
-{
-    let count = numbers.len().min(word.len());
-    for i in 0..count {
-        word[i] = Letter::Element(numbers[i]);
-    }
-    count
+    numbers
+        .iter()
+        .map(|number| Letter::Element(*number))
+        .collect(alloc)
 }
 
 // A note's children: text and staff by turns.
-fn note(word: &mut [Letter]) -> usize
-    ensures { result ≡ length word.old }
+fn note(alloc: Global) -> Result<Vec<Letter>, AllocError>
+    ensures { IfOk result (λ word. length word.items ≡ 63) }
 {
-    for i in 0..word.len() {
-        word[i] = if i % 2 == 0 {
-            Letter::Text
-        } else {
-            Letter::Element(STAFF)
-        };
-    }
-    word.len()
+    (0..LETTERS)
+        .map(|i| {
+            if i % 2 == 0 {
+                Letter::Text
+            } else {
+                Letter::Element(STAFF)
+            }
+        })
+        .collect(alloc)
 }

@@ -18,8 +18,8 @@ pub fn steps_made<E: Engine>(engine: &E, number: u8, first: u64, word: &[E::Lett
     ensures { ReadsUpTo (E.Engine.rest engine.now number) first word.now result }
 {
     let mut reached = first;
-    for i in 0..word.len() {
-        match engine.step(number, reached, word[i]) {
+    for (i, letter) in word.iter().enumerate() {
+        match engine.step(number, reached, *letter) {
             Some(next) => reached = next,
             None => return i,
         }

@@ -1,8 +1,9 @@
 -- The bits of a number as a set: unions, intersections, sets of one number, and that only zero is empty.
-use Rattle.std.proofs.Common.{◌≡◌, ℕ, zero, suc, ◌+◌, ◌-◌, ◌/◌, ◌%◌, ◌^◌, ◌<◌, ◌≤◌, Bool, true, false, ◌≢◌, ◌⊎◌, sym, refl, ap, ◌∙◌, subst, ap₂, inl, inr, one-mul, pow-suc, div-one, arith, lt-ltb}
+use Rattle.std.proofs.Common.{◌≡◌, ℕ, zero, suc, ◌+◌, ◌-◌, ◌/◌, ◌%◌, ◌^◌, ◌<◌, ◌≤◌, Bool, true, false, ◌≢◌, ◌⊎◌, sym, refl, ap, ◌∙◌, subst, ap₂, inl, inr, one-mul, pow-suc, div-one, arith, le-ltb, lt-ltb}
 use native.Mathlib.Decide.{dec_le}
 use native.Mathlib.Nat.{zero-div, div-eq_of_lt}
 use lib.Bits.{bit_and, bit_or, or_shr, and_shr, or_mod, and_mod, or_zero_l, and_zero_l, and_zero_r}
+use Rattle.std.proofs.lemmas.Bool.{cases_lt}
 use Rattle.std.proofs.lemmas.Nat.{pow-add, shl-shr, shr-shr, pow_below, div_below}
 use Rattle.bits.specs.Sets.{Has, singleton, guarded}
 
@@ -93,6 +94,16 @@ has_power m n h =
 
 pub singleton_is : (m : ℕ) → m < 64 → singleton m ≡ 2 ^ m
 singleton_is m lt = rw (lt-ltb m 64 lt, singleton)
+
+pub singleton_none : (m : ℕ) → 64 ≤ m → singleton m ≡ 0
+singleton_none m le = rw (le-ltb m 64 le, singleton)
+
+pub singleton_fits : (m : ℕ) → singleton m < 2 ^ 64
+singleton_fits m =
+    elim (cases_lt m 64) [
+      | inl below ↦ subst (λ s. s < 2 ^ 64) (sym (singleton_is m below)) (pow_below m 64 below)
+      | inr above ↦ subst (λ s. s < 2 ^ 64) (sym (singleton_none m above)) (omega arith)
+    ]
 
 pub has_single : (m n : ℕ) → m < 64 → Has (singleton m) n → n ≡ m
 has_single m n lt h = has_power m n (subst (λ s. Has s n) (singleton_is m lt) h)

@@ -1,15 +1,18 @@
 -- The laws of sets held as binary digits: what the operations on words make of their members, when two
 -- sets are the same, and where the lowest member stands.
-use Rattle.std.proofs.Common.{◌≡◌, ℕ, zero, suc, ◌+◌, ◌/◌, ◌%◌, ◌^◌, ◌<◌, ◌≤◌, Bool, true, false, ◌&&◌, ◌||◌, eqb, sym, refl, ap, ◌∙◌, subst, ap₂, inl, inr, suc-le-suc, zero-le, lt_of_lt_of_le, mod-lt, zero-lt-suc, le_antisymm, one-mul, pow-suc, div-add-mod', div-one, mul-div_cancel, add-one, one-add, arith, pow_pos, pow_mono, shr-shr, shr_lt, eq-eqb, ne_eqb, eqb-true}
-use mathlib.Core.Bool.{xor, or-true, or-false}
+use Rattle.std.proofs.Common.{◌≡◌, ℕ, zero, suc, ◌+◌, ◌-◌, ◌/◌, ◌%◌, ◌^◌, ◌<◌, ◌≤◌, Bool, true, false, ◌&&◌, ◌||◌, eqb, sym, refl, ap, ◌∙◌, subst, inl, inr, suc-le-suc, zero-le, lt_of_lt_of_le, mod-lt, zero-lt-suc, le_antisymm, one-mul, pow-suc, div-add-mod', div-one, mul-div_cancel, add-one, one-add, arith, pow_pos, pow_mono, shr-shr, shr_lt, eq-eqb, ne_eqb, eqb-true}
+use mathlib.Core.Bool.{not, or-true, or-false, and-true, and-false}
 use native.Mathlib.Nat.{zero-div, div-eq_of_lt, mul-mod_left}
 use lib.Arith.{bin_ind, lt-one}
-use lib.Bits.{bit_and, bit_or, bit_xor, and_shr, or_shr, xor_shr, and_mod, or_mod, xor_mod, or_shifted}
+use lib.Bits.{bit_and, bit_or, and_shr, or_shr, and_mod, or_mod, or_shifted}
 use lib.Count.{count_trailing_zeros, under}
 use lib.Dec.{eqb-suc-suc, eqb-suc-zero, eqb-zero-suc}
 use borrow.Author.Tests.{both_ways}
 use Rattle.std.proofs.lemmas.Bool.{cases_eq, cases_lt}
-use Rattle.bits.specs.Sets.{has}
+use mir.Syntax.{w64}
+use Rattle.std.proofs.lemmas.Nat.Bits.{bit_at_not}
+use Rattle.bits.specs.Sets.{has, singleton}
+use Rattle.bits.proofs.Bits.{singleton_is, singleton_none, singleton_fits}
 
 digit_lt : (n : ℕ) → n % 2 < 2
 digit_lt n = mod-lt n (zero-lt-suc 1)
@@ -98,17 +101,6 @@ has_and =
     has_op bit_and ◌&&◌ and_shr and_mod
     (by_digits (λ x y. eqb (bit_and x y) 1 ≡ (eqb x 1 && eqb y 1)) refl refl refl refl)
 
-pub has_xor : (a b q : ℕ) → has (bit_xor a b) q ≡ xor (has a q) (has b q)
-unfolding xor
-has_xor =
-    has_op bit_xor xor xor_shr xor_mod
-    (by_digits (λ x y. eqb (bit_xor x y) 1 ≡ xor (eqb x 1) (eqb y 1)) refl refl refl refl)
-
-xor_false : (b : Bool) → xor b false ≡ b
-unfolding xor
-xor_false true = refl
-xor_false false = refl
-
 -- A power of two holds its exponent and nothing else.
 pub has_power : (k q : ℕ) → has (2 ^ k) q ≡ eqb q k
 has_power zero zero = refl
@@ -140,22 +132,56 @@ pub or_power_more : (s k : ℕ) → has s k ≡ false → s < bit_or s (2 ^ k)
 or_power_more s k out =
     subset_lt s (bit_or s (2 ^ k)) k (λ q m. has_or_power s k q ∙ ap (λ t. t || eqb q k) m) out (or_power_here s k)
 
--- Exclusive or with a power of two whose exponent is a member takes it away, keeps the rest and makes the
--- number less.
-pub has_xor_power : (s k q : ℕ) → has (bit_xor s (2 ^ k)) q ≡ xor (has s q) (eqb q k)
-has_xor_power s k q = has_xor s (2 ^ k) q ∙ ap (λ t. xor (has s q) t) (has_power k q)
+-- The digits of a word with every digit turned.
+not_digit : (d : ℕ) → d < 2 → eqb (1 - d) 1 ≡ not (eqb d 1)
+not_digit zero h = refl
+not_digit (suc zero) h = refl
+not_digit (suc (suc d)) h = absurd (omega arith)
 
-pub xor_power_here : (s k : ℕ) → has s k ≡ true → has (bit_xor s (2 ^ k)) k ≡ false
-unfolding xor
-xor_power_here s k m = has_xor_power s k k ∙ ap₂ xor m (eq-eqb k k refl)
+has_not : (n q : ℕ) → n < 2 ^ 64 → q < 64 → has (2 ^ 64 - 1 - n) q ≡ not (has n q)
+has_not n q h below = ap (λ d. eqb d 1) (bit_at_not w64 n q h below) ∙ not_digit (n / 2 ^ q % 2) (digit_lt (n / 2 ^ q))
 
-pub xor_power_elsewhere : (s k q : ℕ) → (q ≡ k → ⊥) → has (bit_xor s (2 ^ k)) q ≡ has s q
-xor_power_elsewhere s k q ne = has_xor_power s k q ∙ ap (λ t. xor (has s q) t) (ne_eqb q k ne) ∙ xor_false (has s q)
+has_singleton : (p q : ℕ) → q < 64 → has (singleton p) q ≡ eqb q p
+has_singleton p q below =
+    elim (cases_lt p 64) [
+      | inl within ↦ ap (λ n. has n q) (singleton_is p within) ∙ has_power p q
+      | inr above ↦ ap (λ n. has n q) (singleton_none p above) ∙ empty q ∙ sym (ne_eqb q p (omega arith))
+    ]
 
-pub xor_power_less : (s k : ℕ) → has s k ≡ true → bit_xor s (2 ^ k) < s
-xor_power_less s k m =
-    subset_lt (bit_xor s (2 ^ k)) s k (λ q h.
-    elim (cases_eq q k) [ inl e ↦ rw e m | inr ne ↦ sym (xor_power_elsewhere s k q ne) ∙ h ]) (xor_power_here s k m) m
+-- And with all numbers but one takes that one away, keeps the rest and makes the number less where it was
+-- a member.
+module _ (s p : ℕ) (fits : s < 2 ^ 64) where
+  has_cleared : (q : ℕ) → q < 64 → has (bit_and s (2 ^ 64 - 1 - singleton p)) q ≡ (has s q && not (eqb q p))
+  has_cleared q below =
+      has_and s (2 ^ 64 - 1 - singleton p) q
+      ∙ ap (λ t. has s q && t) (has_not (singleton p) q (singleton_fits p) below ∙ ap not (has_singleton p q below))
+
+  cleared_above : (q : ℕ) → 64 ≤ q → has (bit_and s (2 ^ 64 - 1 - singleton p)) q ≡ false
+  cleared_above q above = has_and s (2 ^ 64 - 1 - singleton p) q ∙ ap (λ t. t && has (2 ^ 64 - 1 - singleton p) q) (out_of_word s q fits above)
+
+  pub cleared_here : has (bit_and s (2 ^ 64 - 1 - singleton p)) p ≡ false
+  cleared_here =
+      elim (cases_lt p 64) [
+        | inl below ↦ has_cleared p below ∙ ap (λ t. has s p && not t) (eq-eqb p p refl) ∙ and-false (has s p)
+        | inr above ↦ cleared_above p above
+      ]
+
+  pub cleared_elsewhere : (q : ℕ) → (q ≡ p → ⊥) → has (bit_and s (2 ^ 64 - 1 - singleton p)) q ≡ has s q
+  cleared_elsewhere q ne =
+      elim (cases_lt q 64) [
+        | inl below ↦ has_cleared q below ∙ ap (λ t. has s q && not t) (ne_eqb q p ne) ∙ and-true (has s q)
+        | inr above ↦ cleared_above q above ∙ sym (out_of_word s q fits above)
+      ]
+
+  pub cleared_absent : has s p ≡ false → bit_and s (2 ^ 64 - 1 - singleton p) ≡ s
+  cleared_absent out =
+      same_members (bit_and s (2 ^ 64 - 1 - singleton p)) s (λ q.
+      elim (cases_eq q p) [ inl e ↦ rw e (cleared_here ∙ sym out) | inr ne ↦ cleared_elsewhere q ne ])
+
+  pub cleared_less : has s p ≡ true → bit_and s (2 ^ 64 - 1 - singleton p) < s
+  cleared_less m =
+      subset_lt (bit_and s (2 ^ 64 - 1 - singleton p)) s p (λ q h.
+      elim (cases_eq q p) [ inl e ↦ rw e m | inr ne ↦ sym (cleared_elsewhere q ne) ∙ h ]) cleared_here m
 
 -- The count of the zeros below the lowest digit that is one is the lowest member: the lowest digit is
 -- d, and t zeros stand at the low end of the digits above it.

@@ -35,7 +35,7 @@ pub fn with(set: u64, place: u8) -> u64
     ensures full { 64 ≤ place → result ≡ set }
     ensures more { place < 64 → has set place ≡ false → set < result }
 {
-    if place < 64 { set | (1 << place) } else { set }
+    set | only(place)
 }
 
 // The set less one number. It is smaller as a number too where the number was in it, so that a loop
@@ -46,11 +46,7 @@ pub fn without(set: u64, place: u8) -> u64
     ensures absent { has set place ≡ false → result ≡ set }
     ensures less { has set place ≡ true → result < set }
 {
-    if contains(set, place) {
-        set ^ (1 << place)
-    } else {
-        set
-    }
+    set & !only(place)
 }
 
 // The numbers of either set.

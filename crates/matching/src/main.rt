@@ -3,7 +3,7 @@
 #![tactic(auto)]
 
 use derivative::Derivatives;
-use engine::{ByteRange, ContentAtom, Letter, match_word};
+use engine::{Alphabet, ByteRange, ContentAtom, Letter, match_word};
 use models::{Model, Node, Tables};
 use positions::{BlankTable, FollowTable};
 use sealing::{first_ambiguous, first_without_tree};
@@ -22,53 +22,19 @@ const SHEET: [Node<ContentAtom>; 9] = [
     Node::Seq,
 ];
 
-// What both engines say of a content word.
-fn content<'n, 'm, 'r, 'a>(
-    rt: &HostRuntime,
-    tables: Tables<'n, 'm, ContentAtom>,
-    fast: &mut FollowTable<'n, 'm, 'r, 'a, Letter>,
-    blank: &mut BlankTable<'r, 'a, Letter>,
-) -> io::Result<()> {
-    let slow: Derivatives<'n, 'm, Letter> = Derivatives::over(tables);
-    let filled = fast.fill(tables, blank).is_ok();
-    println!(rt; "table filled: {filled}")?;
-    let whole = [
-        Letter::Element(2),
-        Letter::Element(3),
-        Letter::Element(3),
-        Letter::Element(5),
-    ];
-    let short = [Letter::Element(2), Letter::Element(5)];
-    let a = match_word(&slow, 1, &whole);
-    let b = match_word(&*fast, 1, &whole);
-    println!(rt; "week shift shift lock: derivative {a}, positions {b}")?;
-    let a = match_word(&slow, 1, &short);
-    let b = match_word(&*fast, 1, &short);
-    println!(rt; "week lock: derivative {a}, positions {b}")
-}
+// The words of the sheet that are matched: one that it has, and one that it lacks.
+const WHOLE: [Letter; 4] = [
+    Letter::Element(2),
+    Letter::Element(3),
+    Letter::Element(3),
+    Letter::Element(5),
+];
 
-// What both engines say of a value.
-fn value<'n, 'm, 'r, 'a>(
-    rt: &HostRuntime,
-    tables: Tables<'n, 'm, ByteRange>,
-    fast: &mut FollowTable<'n, 'm, 'r, 'a, u8>,
-    blank: &mut BlankTable<'r, 'a, u8>,
-) -> io::Result<()> {
-    let slow: Derivatives<'n, 'm, u8> = Derivatives::over(tables);
-    let filled = fast.fill(tables, blank).is_ok();
-    println!(rt; "table filled: {filled}")?;
-    let a = match_word(&slow, 1, b"7.50");
-    let b = match_word(&*fast, 1, b"7.50");
-    println!(rt; "7.50: derivative {a}, positions {b}")?;
-    let a = match_word(&slow, 1, b"7.5");
-    let b = match_word(&*fast, 1, b"7.5");
-    println!(rt; "7.5: derivative {a}, positions {b}")
-}
+const SHORT: [Letter; 2] = [Letter::Element(2), Letter::Element(5)];
 
-// Hours: digits, and perhaps a point and two digits.
-fn hours(rt: &HostRuntime, digit: ByteRange, point: ByteRange) -> io::Result<()> {
-    let models = [Model { start: 0, end: 9 }];
-    let nodes = [
+// The nodes of hours: digits, and perhaps a point and two digits.
+fn hours(digit: ByteRange, point: ByteRange) -> [Node<ByteRange>; 9] {
+    [
         Node::Atom(digit),
         Node::Plus,
         Node::Atom(point),
@@ -78,43 +44,59 @@ fn hours(rt: &HostRuntime, digit: ByteRange, point: ByteRange) -> io::Result<()>
         Node::Seq,
         Node::Opt,
         Node::Seq,
-    ];
+    ]
+}
+
+// What both engines say of each word. The follow table takes the lent places.
+fn compare<L: Alphabet>(
+    rt: &HostRuntime,
+    tables: Tables<'_, '_, L::Atom>,
+    atoms: &mut [Node<L::Atom>],
+    words: &[(&str, &[L])],
+) -> io::Result<()> {
     let mut rows = [0; 64];
-    let mut atoms = [Node::Unused; 64];
-    let mut fast = FollowTable::empty();
     let mut blank = BlankTable {
         rows: &mut rows,
-        atoms: &mut atoms,
+        atoms,
     };
-    let tables = Tables {
-        nodes: &nodes,
-        models: &models,
-    };
-    value(rt, tables, &mut fast, &mut blank)
+    let slow = Derivatives::over(tables);
+    let mut fast = FollowTable::empty();
+    let filled = fast.fill(tables, &mut blank).is_ok();
+    println!(rt; "table filled: {filled}")?;
+    for (name, word) in words {
+        let derived = match_word(&slow, 1, word);
+        let followed = match_word(&fast, 1, word);
+        println!(rt; "{name}: derivative {derived}, positions {followed}")?;
+    }
+    Ok(())
 }
 
 fn main(rt: HostRuntime) -> io::Result<()> {
     let models = [Model { start: 0, end: 9 }];
-    let mut rows = [0; 64];
-    let mut atoms = [Node::Unused; 64];
-    let mut fast = FollowTable::empty();
-    let mut blank = BlankTable {
-        rows: &mut rows,
-        atoms: &mut atoms,
-    };
-    let tables = Tables {
+    let sheet = Tables {
         nodes: &SHEET,
         models: &models,
     };
-    content(&rt, tables, &mut fast, &mut blank)?;
-    let ambiguous = first_ambiguous(tables).is_some();
-    let treeless = first_without_tree(tables).is_some();
+    compare(
+        &rt,
+        sheet,
+        &mut [Node::Unused; 64],
+        &[("week shift shift lock", &WHOLE), ("week lock", &SHORT)],
+    )?;
+    let ambiguous = first_ambiguous(sheet).is_some();
+    let treeless = first_without_tree(sheet).is_some();
     println!(rt; "ambiguous: {ambiguous}, without a tree: {treeless}")?;
-    match ByteRange::new(48, 57) {
-        None => Ok(()),
-        Some(digit) => match ByteRange::new(46, 46) {
-            None => Ok(()),
-            Some(point) => hours(&rt, digit, point),
-        },
-    }
+    let (Some(digit), Some(point)) = (ByteRange::new(b'0', b'9'), ByteRange::new(b'.', b'.')) else {
+        return Ok(());
+    };
+    let values = Tables {
+        nodes: &hours(digit, point),
+        models: &models,
+    };
+    compare(
+        &rt,
+        values,
+        &mut [Node::Unused; 64],
+        &[("7.50", b"7.50"), ("7.5", b"7.5")],
+    )
 }

@@ -1,5 +1,5 @@
 -- The entries of the tables, one by one.
-use Rattle.std.proofs.Common.{◌≡◌, ℕ, zero, suc, ◌+◌, ◌*◌, ◌/◌, ◌%◌, ◌<◌, ◌≤◌, Bool, ◌≢◌, ◌⊎◌, List, [], ◌∷◌, length, get_or, set, map, filter, slice_get, Option, Some, None, unwrap_or, MatchOption, sym, refl, ap, ◌∙◌, subst, inl, inr, arith, below_more, get_or-set_other, get_or-set_same}
+use Rattle.std.proofs.Common.{◌≡◌, ℕ, zero, suc, ◌+◌, ◌*◌, ◌/◌, ◌%◌, ◌<◌, ◌≤◌, ◌≢◌, ◌⊎◌, List, [], ◌∷◌, length, get_or, set, filter_map, slice_get, Option, Some, None, MatchOption, sym, refl, ap, ◌∙◌, subst, inl, inr, arith, below_more, get_or-set_other, get_or-set_same}
 use native.Mathlib.Decide.{dec_le}
 use lib.Bits.{bit_or}
 use lib.ListN.{get_or-eq_default}
@@ -7,15 +7,15 @@ use Rattle.derivative.specs.Derivation.{derivation, after_state, ends_in}
 use Rattle.derivative.specs.declared.derive.Derived.{Derived}
 use Rattle.models.specs.Expressions.{Exp}
 use Rattle.models.specs.Folds.{Folded, value}
-use Rattle.models.specs.Readers.{atoms_of, Numbered}
+use Rattle.models.specs.Readers.{atom_in, atoms_of, Numbered}
 use Rattle.bits.specs.Sets.{guarded, singleton}
 use Rattle.models.specs.Tables.{Coded, NodesOf}
 use Rattle.models.specs.declared.node.Model.{Model}
 use Rattle.models.specs.declared.node.Node.{Node}
 use Rattle.models.specs.declared.node.Node.TheVariants as node
 use Rattle.models.proofs.ModelTables.{coded_one}
-use Rattle.models.proofs.Numbering.{numbered_in, numbered_one}
-use Rattle.positions.specs.Following.{everything, row, is_atom, AtomAt, RowAt, Rows, Atoms, Followed, Blank, Placed, Spare}
+use Rattle.models.proofs.Numbering.{atoms_found, numbered_in, numbered_one}
+use Rattle.positions.specs.Following.{everything, row, AtomAt, RowAt, Rows, Atoms, Followed, Blank, Placed, Spare}
 
 -- One place more is written.
 pub written_more : {A : Type 0} (P : ℕ → A → Type 0) (d : A) (xs : List A) (i : ℕ) (x : A) → i < length xs → ((k : ℕ) → k < i → P k (get_or xs k d)) → P i x → (k : ℕ) → k < i + 1 → P k (get_or (set xs i x) k d)
@@ -40,27 +40,13 @@ module _ {A : Type 0} (nodes : List (Node A)) (models : List Model) (i : ℕ) (s
         none = λ h. absurd (h e coded);
       }
 
--- The atoms among the nodes, in order, are the nodes that are atoms.
-atoms_filtered : {A : Type 0} (nodes : List (Node A)) → filter is_atom nodes ≡ map node.Atom (atoms_of nodes)
-atoms_filtered [] = refl
-atoms_filtered (node.Unused ∷ nodes) = atoms_filtered nodes
-atoms_filtered (node.Empty ∷ nodes) = atoms_filtered nodes
-atoms_filtered (node.Atom a ∷ nodes) = ap (λ xs. node.Atom a ∷ xs) (atoms_filtered nodes)
-atoms_filtered (node.Seq ∷ nodes) = atoms_filtered nodes
-atoms_filtered (node.Alt ∷ nodes) = atoms_filtered nodes
-atoms_filtered (node.Star ∷ nodes) = atoms_filtered nodes
-atoms_filtered (node.Plus ∷ nodes) = atoms_filtered nodes
-atoms_filtered (node.Opt ∷ nodes) = atoms_filtered nodes
-
 -- An atom at a place has the next number; past the end there is none.
-get_numbered : {A : Type 0} (xs : List A) (b k : ℕ) (x : Node A) → slice_get (map node.Atom xs) k ≡ Some x → (a : A) × (x ≡ node.Atom a) × Numbered xs b (b + k + 1) a
-get_numbered [] b k x h = cc
-get_numbered (a ∷ xs) b zero x h = let e : x ≡ node.Atom a = cc in (a, e, inl (omega arith, refl))
-get_numbered (c ∷ xs) b (suc k) x h =
-    let (a, e, n) = get_numbered xs (b + 1) k x h in
-    (a, e, inr (subst (λ m. Numbered xs (b + 1) m a) (omega arith) n))
+get_numbered : {A : Type 0} (xs : List A) (b k : ℕ) (a : A) → slice_get xs k ≡ Some a → Numbered xs b (b + k + 1) a
+get_numbered [] b k a h = cc
+get_numbered (c ∷ xs) b zero a h = let e : c ≡ a = cc in inl (omega arith, e)
+get_numbered (c ∷ xs) b (suc k) a h = inr (subst (λ m. Numbered xs (b + 1) m a) (omega arith) (get_numbered xs (b + 1) k a h))
 
-get_past : {A : Type 0} (xs : List A) (k : ℕ) → slice_get (map node.Atom xs) k ≡ None → length xs ≤ k
+get_past : {A : Type 0} (xs : List A) (k : ℕ) → slice_get xs k ≡ None → length xs ≤ k
 get_past [] k h = omega arith
 get_past (a ∷ xs) zero h = cc
 get_past (a ∷ xs) (suc k) h = let le = get_past xs k h in omega arith
@@ -78,13 +64,13 @@ module _ {A : Type 0} (nodes : List (Node A)) where
     none = λ h. refl;
   }
 
-  pub atom_at : (k : ℕ) (r : Option (Node A)) → r ≡ slice_get (filter is_atom nodes) k → AtomAt nodes (k + 1) (unwrap_or r node.Unused)
-  atom_at k None is =
-      let le = get_past (atoms_of nodes) k (ap (λ xs. slice_get xs k) (sym (atoms_filtered nodes)) ∙ sym is) in
-      atom_missing (k + 1) (inl (omega arith))
-  atom_at k (Some x) is =
-      let (a, e, n) = get_numbered (atoms_of nodes) 0 k x (ap (λ xs. slice_get xs k) (sym (atoms_filtered nodes)) ∙ sym is) in
-      atom_found (k + 1) x a e (subst (λ m. Numbered (atoms_of nodes) 0 m a) (omega arith) n)
+  pub atom_at : (k : ℕ) (r : Option A) → r ≡ slice_get (filter_map atom_in nodes) k → (x : Node A) → MatchOption r (x ≡ node.Unused) (λ a. x ≡ node.Atom a) → AtomAt nodes (k + 1) x
+  atom_at k None is x made =
+      let le = get_past (atoms_of nodes) k (ap (λ xs. slice_get xs k) (sym (atoms_found nodes)) ∙ sym is) in
+      subst (AtomAt nodes (k + 1)) (sym made) (atom_missing (k + 1) (inl (omega arith)))
+  atom_at k (Some a) is x made =
+      let n = get_numbered (atoms_of nodes) 0 k a (ap (λ xs. slice_get xs k) (sym (atoms_found nodes)) ∙ sym is) in
+      atom_found (k + 1) x a made (subst (λ m. Numbered (atoms_of nodes) 0 m a) (omega arith) n)
 
 -- From places that were written one by one to what a follow table keeps.
 module _ {A : Type 0} (nodes : List (Node A)) (models : List Model) where

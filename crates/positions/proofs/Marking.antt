@@ -4,7 +4,7 @@ use Rattle.models.specs.Expressions.{Exp, empty, atom, seq, alt, star, plus, opt
 use Rattle.models.specs.Marks.{Mark, ReadsMarked, UpTo, Follows, EndsAfter}
 use Rattle.models.specs.Readers.{Numbered}
 use Rattle.models.specs.Rests.{Rest}
-use Rattle.bits.specs.Sets.{has, Has, singleton, guarded}
+use Rattle.bits.specs.Sets.{Has, has, singleton, guarded}
 use Rattle.bits.proofs.Bits.{has_or, has_or_l, has_or_r, has_guarded, guarded_has, single_has}
 use Rattle.models.proofs.Derivation.{Iff}
 use Rattle.models.proofs.Numbering.{leaves, length_leaves, numbered_one, numbered_some}

@@ -1,5 +1,5 @@
 -- Follow sets as rows of a table.
-use Rattle.std.specs.Prelude.{◌≡◌, ℕ, ◌+◌, ◌-◌, ◌*◌, ◌/◌, ◌%◌, ◌^◌, ◌<◌, ◌≤◌, Bool, true, false, List, [], length, replicate, bit_or, slice_index, slice_index_or}
+use Rattle.std.specs.Prelude.{◌≡◌, ℕ, ◌+◌, ◌-◌, ◌*◌, ◌/◌, ◌%◌, ◌^◌, ◌<◌, ◌≤◌, List, [], length, replicate, bit_or, slice_index, slice_index_or}
 use Rattle.derivative.specs.Derivation.{derivation, after_state, ends_in}
 use Rattle.models.specs.Expressions.{Exp}
 use Rattle.models.specs.Folds.{code, value}
@@ -25,17 +25,6 @@ row e p =
 pub record RowAt {A : Type 0} (nodes : List (Node A)) (models : List Model) (i : ℕ) (entry : ℕ) : Type 0 where
   pub coded : (e : Exp A) → Coded nodes models (i / 64 + 1) e → entry ≡ row e (i % 64)
   pub none : ((e : Exp A) → Coded nodes models (i / 64 + 1) e → ⊥) → entry ≡ 0
-
--- The node is an atom.
-abbrev pub is_atom : {A : Type 0} → Node A → Bool
-is_atom node.Unused = false
-is_atom node.Empty = false
-is_atom (node.Atom a) = true
-is_atom node.Seq = false
-is_atom node.Alt = false
-is_atom node.Star = false
-is_atom node.Plus = false
-is_atom node.Opt = false
 
 -- The node is the atom of that number among the nodes, and unused where there is none.
 pub record AtomAt {A : Type 0} (nodes : List (Node A)) (n : ℕ) (x : Node A) : Type 0 where

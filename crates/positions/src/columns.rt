@@ -20,10 +20,7 @@ fn node_at<Atom: Copy>(nodes: &[Node<Atom>], place: usize) -> Node<Atom>
 fn sorts<L: Bucketed>(node: Node<L::Atom>, bucket: u8) -> bool
     ensures { Decides result (Sorts L.Alphabet.stands L.Bucketed.falls node bucket) }
 {
-    match node {
-        Node::Atom(atom) => L::meets(atom, bucket),
-        _ => false,
-    }
+    node.atom().is_some_and(|atom| L::meets(atom, bucket))
 }
 
 // The column at a place: those of the 64 atoms there that stand for some letter of bucket `place % 64`.
@@ -33,6 +30,7 @@ fn column_at<L: Bucketed>(atoms: &[Node<L::Atom>], place: usize) -> u64
     let base = place / 64 * 64;
     let bucket = (place % 64) as u8;
     let mut found = 0;
+    // Kept: a fold over the atoms beside their numbers left open what its closure adds (`meets` is no function).
     for number in 0..64 {
         if sorts::<L>(node_at(atoms, base + number as usize), bucket) {
             found |= only(number);

@@ -1,8 +1,8 @@
 // The entries of a follow table, worked out from the node table.
 
-ghost use Rattle.std.specs.Prelude.{◌≡◌, ℕ, ◌<◌, length, filter, slice_get};
+ghost use Rattle.std.specs.Prelude.{ℕ, ◌<◌, length};
 ghost use Rattle.models.specs.declared.node.Node.TheVariants.{Unused};
-ghost use Rattle.positions.specs.Following.{AtomAt, Atoms, RowAt, Rows, is_atom};
+ghost use Rattle.positions.specs.Following.{AtomAt, Atoms, RowAt, Rows};
 
 use bits::{only, when};
 use derivative::known;
@@ -19,17 +19,6 @@ fn row_at<Atom: Copy>(tables: Tables<'_, '_, Atom>, place: usize) -> u64
     )
 }
 
-// The atom that so many atoms stand before.
-fn atom_after<Atom: Copy>(nodes: &[Node<Atom>], before: usize) -> Option<Node<Atom>>
-    ensures { result ≡ slice_get (filter is_atom nodes.now) before }
-{
-    nodes
-        .iter()
-        .copied()
-        .filter(|node| matches!(node, Node::Atom(_)))
-        .nth(before)
-}
-
 // The atom with a number, or an unused node where there is none.
 pub fn atom_of<Atom: Copy>(nodes: &[Node<Atom>], number: usize) -> Node<Atom>
     ensures { AtomAt nodes.now number result }
@@ -37,7 +26,11 @@ pub fn atom_of<Atom: Copy>(nodes: &[Node<Atom>], number: usize) -> Node<Atom>
     let Some(before) = number.checked_sub(1) else {
         return Node::Unused;
     };
-    atom_after(nodes, before).unwrap_or(Node::Unused)
+    nodes
+        .iter()
+        .filter_map(|node| node.atom())
+        .nth(before)
+        .map_or(Node::Unused, |atom| Node::Atom(atom))
 }
 
 // Writes the row of every place.

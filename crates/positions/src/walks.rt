@@ -25,10 +25,7 @@ pub fn union_of(rows: &[u64], base: usize, set: u64) -> u64
 fn reads<L: Alphabet>(node: Node<L::Atom>, letter: L) -> bool
     ensures { Decides result (Reads L.Alphabet.stands node letter) }
 {
-    match node {
-        Node::Atom(atom) => letter.is_among(atom),
-        _ => false,
-    }
+    node.atom().is_some_and(|atom| letter.is_among(atom))
 }
 
 // Those numbers in a set whose atom reads the letter. The atoms begin at a place of the table.

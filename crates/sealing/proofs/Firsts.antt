@@ -6,9 +6,6 @@ use Rattle.std.specs.List.{AllWithin, HoldsAt, range_with_len}
 use Rattle.std.proofs.lemmas.List.FromFn.{length-range_with_len, get_or-range_with_len}
 use Rattle.std.specs.Option.{MatchOption}
 use Rattle.engine.specs.Languages.{Decides, Each}
-use Rattle.models.specs.Readers.{atoms_of}
-use Rattle.models.specs.declared.node.Node.{Node}
-use Rattle.models.specs.declared.node.Node.TheVariants as node
 use Rattle.sealing.specs.Questions.{FirstNo}
 
 pub decided_yes : {P : Type 0} (t : Bool) → Decides t P → t ≡ true → P
@@ -30,9 +27,18 @@ pub any_decides : {X : Type 0} (P : X → Type 0) (d : X) (xs : List X) (r : Boo
 any_decides P d xs true (k, lt, h) = (k, lt, h d)
 any_decides P d xs false none = λ (k, lt, h). none k d (omega arith) lt h
 
-pub all_decides : {X : Type 0} (P : X → Type 0) (d : X) (xs : List X) (r : Bool) → MatchBool r (AllWithin P xs 0 (length xs)) ((k : ℕ) × (k < length xs) × HoldsAt (λ x. P x → ⊥) xs k) → Decides r ((k : ℕ) → k < length xs → P (get_or xs k d))
-all_decides P d xs true each = λ k lt. each k d (omega arith) lt
-all_decides P d xs false (k, lt, h) = λ each. h d (each k lt)
+pub each_of : {X : Type 0} (P : X → Type 0) (d : X) (xs : List X) → ((k : ℕ) → k < length xs → P (get_or xs k d)) → Each P xs
+each_of P d [] h = tt
+each_of P d (x ∷ xs) h = (h zero (omega arith), each_of P d xs (λ k lt. h (suc k) (omega arith)))
+
+of_each : {X : Type 0} (P : X → Type 0) (d : X) (xs : List X) → Each P xs → (k : ℕ) → k < length xs → P (get_or xs k d)
+of_each P d [] h k lt = absurd (omega arith)
+of_each P d (x ∷ xs) h zero lt = h.0
+of_each P d (x ∷ xs) h (suc k) lt = of_each P d xs h.1 k (omega arith)
+
+pub all_decides : {X : Type 0} (P : X → Type 0) (d : X) (xs : List X) (r : Bool) → MatchBool r (AllWithin P xs 0 (length xs)) ((k : ℕ) × (k < length xs) × HoldsAt (λ x. P x → ⊥) xs k) → Decides r (Each P xs)
+all_decides P d xs true all = each_of P d xs (λ k lt. all k d (omega arith) lt)
+all_decides P d xs false (k, lt, h) = λ each. h d (of_each P d xs each k lt)
 
 -- The same of the numbers below 64.
 pub in_range : (P : ℕ → Type 0) (r : Bool) → Decides r ((k : ℕ) × (k < length (range_with_len 0 64)) × P (get_or (range_with_len 0 64) k 0)) → Decides r ((p : ℕ) × (p ≤ 63) × P p)
@@ -42,23 +48,6 @@ in_range P true (k, lt, h) =
 in_range P false never = λ (p, le, h).
     let below : p < 64 = omega arith in
     never (p, omega (arith, length-range_with_len 0 64), subst P (sym (get_or-range_with_len 0 64 p 0 below ∙ zero-add p)) h)
-
--- What is known of each node's atom is known of each atom.
-pub each_atom : {A : Type 0} (P : A → Type 0) (nodes : List (Node A)) → ((k : ℕ) → k < length nodes → (a : A) → get_or nodes k node.Unused ≡ node.Atom a → P a) → Each P (atoms_of nodes)
-each_atom P [] h = tt
-each_atom {A = A} P (x ∷ nodes) h =
-    let rest = each_atom P nodes (λ k lt. h (suc k) (omega arith)) in
-    first x (h zero (omega arith)) rest
-  where
-    first : (y : Node A) → ((a : A) → y ≡ node.Atom a → P a) → Each P (atoms_of nodes) → Each P (atoms_of (y ∷ nodes))
-    first node.Unused here rest = rest
-    first node.Empty here rest = rest
-    first (node.Atom a) here rest = (here a refl, rest)
-    first node.Seq here rest = rest
-    first node.Alt here rest = rest
-    first node.Star here rest = rest
-    first node.Plus here rest = rest
-    first node.Opt here rest = rest
 
 -- No more can be taken than there are.
 pub take_fewer : {A : Type 0} (n : ℕ) (xs : List A) → take (min (length xs) n) xs ≡ take n xs

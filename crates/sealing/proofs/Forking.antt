@@ -2,6 +2,7 @@
 use Rattle.std.proofs.Common.{◌≡◌, ℕ, ◌+◌, ◌<◌, ◌≤◌, Bool, true, false, ◌⊎◌, List, [], ◌∷◌, length, get_or, Option, Some, None, is_some, MatchOption, sym, refl, ap, ◌∙◌, subst, inl, inr, arith}
 use borrow.Author.Tests.{both_ways}
 use Rattle.std.specs.Iterator.{SkipsThenYields}
+use Rattle.std.specs.List.{filter_map}
 use Rattle.std.proofs.lemmas.Bool.{cases_eq}
 use Rattle.bits.specs.Sets.{has, TakesLowest}
 use Rattle.bits.specs.declared.Members.{Members}
@@ -15,21 +16,21 @@ use Rattle.engine.specs.declared.alphabet.Letter.TheVariants.{Text, Element}
 use Rattle.models.specs.Expressions.{Exp}
 use Rattle.models.specs.Folds.{Codes, Folded, value}
 use Rattle.models.specs.Marks.{Mark}
-use Rattle.models.specs.Readers.{Numbered, Readers, atoms_of}
+use Rattle.models.specs.Readers.{Numbered, Readers, atom_in, atoms_of}
 use Rattle.bits.specs.Sets.{Has, singleton}
 use Rattle.models.specs.Tables.{NodesOf}
 use Rattle.models.specs.declared.node.Model.{Model}
 use Rattle.models.specs.declared.node.Node.{Node}
 use Rattle.models.specs.declared.node.Node.TheVariants as node
 use Rattle.models.proofs.Folding.{codes_one}
-use Rattle.models.proofs.Numbering.{leaves, coded_leaves}
+use Rattle.models.proofs.Numbering.{atoms_found, leaves, coded_leaves}
 use Rattle.derivative.specs.Derivation.{derivation, after_state}
 use Rattle.derivative.specs.declared.derive.Derived.{Derived}
 use Rattle.derivative.proofs.Knowing.{iff_member, Agrees}
 use Rattle.derivative.proofs.Stepping.{readers_agree}
 use Rattle.sealing.specs.Forks.{After, Forks, ForksIn, ForksBy, AmbiguousIn, Several}
 use Rattle.sealing.specs.Questions.{IsAmbiguous, Unambiguous}
-use Rattle.sealing.proofs.Firsts.{each_atom}
+use Rattle.sealing.proofs.Firsts.{each_of}
 use Rattle.sealing.proofs.Marking.{reads_next, fork_ambiguous, ambiguous_fork}
 
 -- Two atoms with a letter in common have the sample of one of them in common.
@@ -123,11 +124,12 @@ found_none nodes none (e, c, m) =
     (subst (λ cs. Numbered cs 0 n a) (sym (ap atoms_of c.coded ∙ coded_leaves e)) k) p low (e, c, f)
 
 -- Nodes are ambiguous exactly when something forks by the sample of one of their atoms.
-pub ambiguous_told : (nodes : List (Node ContentAtom)) (b : Bool) → Decides b ((k : ℕ) × (k < length nodes) × ForksBy nodes (get_or nodes k node.Unused)) → Decides b (AmbiguousIn nodes)
-ambiguous_told nodes true (k, lt, (a, is, (p, low, f))) = found_ambiguous nodes (content_sample a) p f
+pub ambiguous_told : (nodes : List (Node ContentAtom)) (b : Bool) → Decides b ((k : ℕ) × (k < length (filter_map atom_in nodes)) × ForksBy nodes (get_or (filter_map atom_in nodes) k content.Text)) → Decides b (AmbiguousIn nodes)
+ambiguous_told nodes true (k, lt, (p, low, f)) = found_ambiguous nodes (content_sample (get_or (filter_map atom_in nodes) k content.Text)) p f
 ambiguous_told nodes false never =
+    let none : (a : ContentAtom) → Type 0 = λ a. (p : ℕ) → p ≤ 63 → ForksIn nodes (content_sample a) p → ⊥ in
     found_none nodes
-    (each_atom (λ a. (p : ℕ) → p ≤ 63 → ForksIn nodes (content_sample a) p → ⊥) nodes (λ k lt a is p low f. never (k, lt, (a, is, (p, low, f)))))
+    (subst (Each none) (atoms_found nodes) (each_of none content.Text (filter_map atom_in nodes) (λ k lt p low f. never (k, lt, (p, low, f)))))
 
 -- From the nodes of a number to the number.
 module _ (nodes : List (Node ContentAtom)) (models : List Model) (n : ℕ) (slice : List (Node ContentAtom)) (is : NodesOf nodes models n slice) where

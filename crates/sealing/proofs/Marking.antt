@@ -9,7 +9,7 @@ use Rattle.models.specs.Folds.{value}
 use Rattle.models.specs.Marks.{Mark, MarkedWords, ReadsMarked, Ambiguous}
 use Rattle.models.specs.Readers.{Numbered}
 use Rattle.models.specs.Rests.{Rest}
-use Rattle.bits.specs.Sets.{has, Has, singleton, guarded}
+use Rattle.bits.specs.Sets.{Has, has, singleton, guarded}
 use Rattle.bits.proofs.Bits.{has_or, has_or_l, has_or_r, has_none, has_and, and_has, has_single, single_has, has_guarded, guarded_has}
 use Rattle.models.proofs.Derivation.{Iff}
 use Rattle.models.proofs.Joins.{then_map, then_cons, many_cons}

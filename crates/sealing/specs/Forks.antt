@@ -10,7 +10,6 @@ use Rattle.models.specs.Folds.{Codes}
 use Rattle.models.specs.Marks.{Mark, MarkedWords, ReadsMarked, Ambiguous}
 use Rattle.models.specs.Rests.{Rest}
 use Rattle.models.specs.declared.node.Node.{Node}
-use Rattle.models.specs.declared.node.Node.TheVariants.{Atom}
 
 -- The marked words that may follow when atom p was read last; 0 means the beginning.
 abbrev pub After : {A X : Type 0} → (A → X → Type 0) → Exp A → ℕ → Language (Mark X)
@@ -30,9 +29,9 @@ pub record Forks {A X : Type 0} (stands : A → X → Type 0) (e : Exp A) (lette
 abbrev pub ForksIn : List (Node ContentAtom) → Letter → ℕ → Type 0
 ForksIn nodes letter p = (e : Exp ContentAtom) × Codes 64 nodes e × Forks StandsFor e letter p
 
--- After some atom, or at the beginning, either of two atoms may read the sample of the node's atom.
-abbrev pub ForksBy : List (Node ContentAtom) → Node ContentAtom → Type 0
-ForksBy nodes node = (a : ContentAtom) × (node ≡ Atom a) × ((p : ℕ) × (p ≤ 63) × ForksIn nodes (content_sample a) p)
+-- After some atom, or at the beginning, either of two atoms may read the sample of this atom.
+abbrev pub ForksBy : List (Node ContentAtom) → ContentAtom → Type 0
+ForksBy nodes a = (p : ℕ) × (p ≤ 63) × ForksIn nodes (content_sample a) p
 
 -- The nodes code an ambiguous expression.
 abbrev pub AmbiguousIn : List (Node ContentAtom) → Type 0

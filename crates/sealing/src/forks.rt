@@ -47,19 +47,19 @@ fn sample(atom: ContentAtom) -> Letter
     }
 }
 
-// Whether two atoms may read the sample of the node's atom, if it has one.
-fn forks_at(nodes: &[Node<ContentAtom>], node: Node<ContentAtom>) -> bool
-    ensures { Decides result (ForksBy nodes.now node) }
+// Whether two atoms may read the atom's sample.
+fn forks_by(nodes: &[Node<ContentAtom>], atom: ContentAtom) -> bool
+    ensures { Decides result (ForksBy nodes.now atom) }
 {
-    match node {
-        Node::Atom(atom) => forks_somewhere(nodes, sample(atom)),
-        _ => false,
-    }
+    forks_somewhere(nodes, sample(atom))
 }
 
 // Whether the nodes code an ambiguous expression.
 pub fn ambiguous(nodes: &[Node<ContentAtom>]) -> bool
     ensures { Decides result (AmbiguousIn nodes.now) }
 {
-    nodes.iter().any(|node| forks_at(nodes, *node))
+    nodes
+        .iter()
+        .filter_map(|node| node.atom())
+        .any(|atom| forks_by(nodes, atom))
 }
