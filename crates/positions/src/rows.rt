@@ -13,8 +13,10 @@ fn row_at<Atom: Copy>(tables: Tables<'_, '_, Atom>, place: usize) -> u64
     ensures { RowAt tables.entry.nodes.now tables.entry.models.now place result }
 {
     let from = only((place % 64) as u8);
-    known(tables.nodes_of(place / 64 + 1), from, u64::MAX)
-        .map_or(0, |derived| derived.reached(from) | when(derived.may_end(from), 1))
+    known(tables.nodes_of(place / 64 + 1), from, u64::MAX).map_or(
+        0,
+        |derived| derived.reached(from) | when(derived.may_end(from), 1),
+    )
 }
 
 // The atom with a number, or an unused node where there is none.

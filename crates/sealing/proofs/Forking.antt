@@ -63,10 +63,10 @@ pub several_second : (s : Members) (r : Option ℕ) (u : Members) → SkipsThenY
 several_second s None u ([], (t, is, none), few) = λ (i, j, ne, hi, hj). both_ways (has 0 i) (sets.empty i) (subst (λ m. has m i ≡ true) (ap (λ (v : Members). v.left) is ∙ none.0) hi)
 several_second s None u (p ∷ [], (t, (k, first, is), none), few) = λ (i, j, ne, hi, hj).
     let rest : (q : ℕ) → has s.left q ≡ true → q ≡ p = λ q h.
-        elim (cases_eq q p) [
-          | inl e ↦ e
-          | inr n ↦ absurd (both_ways (has 0 q) (sets.empty q) (subst (λ m. has m q ≡ true) (ap (λ (v : Members). v.left) is ∙ none.0) (first.4 q n ∙ h)))
-        ] in
+    elim (cases_eq q p) [
+      | inl e ↦ e
+      | inr n ↦ absurd (both_ways (has 0 q) (sets.empty q) (subst (λ m. has m q ≡ true) (ap (λ (v : Members). v.left) is ∙ none.0) (first.4 q n ∙ h)))
+    ] in
     ne (rest i hi ∙ sym (rest j hj))
 several_second s None u (p ∷ (q ∷ xs), (t, y, none), few) = absurd (omega arith)
 several_second s (Some q) u ([], (t, y, second), one) = absurd (omega arith)

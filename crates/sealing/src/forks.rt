@@ -23,8 +23,9 @@ fn forks(nodes: &[Node<ContentAtom>], letter: Letter, after: u8) -> bool
     ensures { Decides result (ForksIn nodes.now letter after) }
 {
     let state = only(after);
-    known(nodes, state, readers(nodes, letter))
-        .is_some_and(|derived| several(derived.reached(state)))
+    known(nodes, state, readers(nodes, letter)).is_some_and(|derived| several(derived.reached(
+        state,
+    )))
 }
 
 // Whether two atoms may read the letter after some atom or at the beginning.

@@ -18,7 +18,7 @@ loop-number-preserved g c =
     let found = c.loop-number.found in
     let lt : n < 64 = omega arith in
     let decides : (t : Bool) → c.sorts.result ≡ t → Decides t (Sorts stands falls (get_or atoms (base + n) Unused) bucket) =
-        λ t is. subst (λ x. Decides t (Sorts stands falls x bucket)) c.node_at.ensures (subst (λ b. Decides b (Sorts stands falls c.node_at.result bucket)) is c.sorts.ensures) in
+    λ t is. subst (λ x. Decides t (Sorts stands falls x bucket)) c.node_at.ensures (subst (λ b. Decides b (Sorts stands falls c.node_at.result bucket)) is c.sorts.ensures) in
     elim c.if-sorts.branch [
       | then-sorts w ↦
           subst (Sorted stands falls atoms base bucket (n + 1)) (sym (w.found-is ∙ ap (λ s. bit_or found s) w.only-found.ensures))
