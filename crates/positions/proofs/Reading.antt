@@ -13,6 +13,7 @@ use Rattle.models.specs.declared.node.Model.{Model}
 use Rattle.models.specs.declared.node.Node.{Node}
 use Rattle.models.specs.declared.node.Node.TheVariants as node
 use Rattle.bits.proofs.Bits.{has_or, has_or_l, has_or_r, has_none, has_power, has_guarded, guarded_has, has_small, single_has, some_bit}
+use Rattle.bits.proofs.Sets.{has_zero}
 use Rattle.models.proofs.Derivation.{Iff}
 use Rattle.models.proofs.ModelTables.{coded_or_not}
 use Rattle.models.proofs.Numbering.{leaves, length_leaves, numbered_in, numbered_one, numbered_some, coded_leaves}
@@ -280,8 +281,8 @@ module _ {A X : Type 0} (stands : A → X → Type 0) (nodes : List (Node A)) (m
           told false e = step_something small (eqb-false k 0 e)
 
 -- A word may end by the rows of a number that has a record, and by no other.
-pub ends_found : {A X : Type 0} (stands : A → X → Type 0) (nodes : List (Node A)) (models : List Model) (rows : List ℕ) (number : ℕ) → Followed nodes models rows → Blank nodes models rows → (s : ℕ) → s < 2 ^ 64 → (o : Option ℕ) → Based models number o → (b : Bool) → MatchOption o (b ≡ false) (λ base. (u : ℕ) × Union rows base s u × (b ≡ eqb (u % 2) 1)) → Decides b (ModelRest stands nodes models number s [])
+pub ends_found : {A X : Type 0} (stands : A → X → Type 0) (nodes : List (Node A)) (models : List Model) (rows : List ℕ) (number : ℕ) → Followed nodes models rows → Blank nodes models rows → (s : ℕ) → s < 2 ^ 64 → (o : Option ℕ) → Based models number o → (b : Bool) → MatchOption o (b ≡ false) (λ base. (u : ℕ) × Union rows base s u × (b ≡ has u 0)) → Decides b (ModelRest stands nodes models number s [])
 ends_found stands nodes models rows number followed blank s fits None none b ended =
     rw ended (λ h. let c = h.1 in elim none [ inl low ↦ absurd (omega (arith, c.from_one)) | inr high ↦ absurd (omega (arith, c.listed)) ])
 ends_found stands nodes models rows number followed blank s fits (Some base) based b (u, union, is) =
-    rw is (ends_answer stands nodes models rows number base based.0 based.2 followed blank s u fits union)
+    rw (is ∙ has_zero u) (ends_answer stands nodes models rows number base based.0 based.2 followed blank s u fits union)

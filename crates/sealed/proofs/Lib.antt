@@ -1,4 +1,3 @@
-pub mod Atoms
 pub mod Checking
 pub mod Lawful
 pub mod Plainness

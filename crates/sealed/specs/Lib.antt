@@ -1,4 +1,3 @@
-pub mod AtNodes
 pub mod Checks
 pub mod Refusals
 pub mod Texts

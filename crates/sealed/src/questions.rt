@@ -3,7 +3,6 @@
 ghost use Rattle.std.specs.Prelude.{◌≤◌, length};
 ghost use Rattle.engine.specs.Languages.{Decides, Each};
 ghost use Rattle.models.specs.Readers.{atoms_of};
-ghost use Rattle.sealed.specs.AtNodes.{AtNode};
 ghost use Rattle.sealed.specs.Checks.{HasModel, HasNoModel, Judged, Names};
 ghost use Rattle.sealing.specs.Questions.{FirstNo};
 
@@ -22,14 +21,14 @@ pub enum Unsealed {
     NoTree(u8),
 }
 
-// Whether a node's atom, if it has one, names elements up to the last one.
-fn names_declared(node: Node<ContentAtom>, last: usize) -> bool
-    ensures { Decides result (AtNode (Names last) node) }
+// Whether an atom names elements up to the last one.
+fn names_declared(atom: ContentAtom, last: usize) -> bool
+    ensures { Decides result (Names last atom) }
 {
-    match node {
-        Node::Atom(ContentAtom::Element(number)) => number >= 1 && number as usize <= last,
-        Node::Atom(ContentAtom::All(number)) => number as usize <= last,
-        _ => true,
+    match atom {
+        ContentAtom::Text => true,
+        ContentAtom::Element(number) => number >= 1 && number as usize <= last,
+        ContentAtom::All(number) => number as usize <= last,
     }
 }
 
@@ -37,7 +36,10 @@ fn names_declared(node: Node<ContentAtom>, last: usize) -> bool
 fn all_declared(nodes: &[Node<ContentAtom>], last: usize) -> bool
     ensures { Decides result (Each (Names last) (atoms_of nodes.now)) }
 {
-    nodes.iter().all(|node| names_declared(*node, last))
+    nodes
+        .iter()
+        .filter_map(|node| node.atom())
+        .all(|atom| names_declared(atom, last))
 }
 
 // Whether the number has a model, and its atoms name declared elements.

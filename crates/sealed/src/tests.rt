@@ -9,22 +9,18 @@ use models::{Model, Node, Tables};
 fn holds_itself(rt: HostRuntime) {
     let models = [Model { start: 0, end: 1 }];
     let nodes = [Node::Atom(ContentAtom::Element(1))];
-    assert_eq!(rt;
-        check(Tables {
-            nodes: &nodes,
-            models: &models
-        }),
-        Err(Unsealed::NoTree(1))
-    );
+    let tables = Tables {
+        nodes: &nodes,
+        models: &models,
+    };
+    assert_eq!(rt; check(tables), Err(Unsealed::NoTree(1)));
     let models = [Model { start: 0, end: 2 }];
     let nodes = [Node::Atom(ContentAtom::Element(1)), Node::Opt];
-    assert_eq!(rt;
-        check(Tables {
-            nodes: &nodes,
-            models: &models
-        }),
-        Ok(())
-    );
+    let tables = Tables {
+        nodes: &nodes,
+        models: &models,
+    };
+    assert_eq!(rt; check(tables), Ok(()));
 }
 
 // An element that may come and then must is ambiguous.
@@ -38,11 +34,9 @@ fn may_and_must(rt: HostRuntime) {
         Node::Seq,
         Node::Empty,
     ];
-    assert_eq!(rt;
-        check(Tables {
-            nodes: &nodes,
-            models: &models
-        }),
-        Err(Unsealed::Ambiguous(1))
-    );
+    let tables = Tables {
+        nodes: &nodes,
+        models: &models,
+    };
+    assert_eq!(rt; check(tables), Err(Unsealed::Ambiguous(1)));
 }

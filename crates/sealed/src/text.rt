@@ -3,7 +3,6 @@
 ghost use Rattle.std.specs.Prelude.{◌≤◌};
 ghost use Rattle.engine.specs.Languages.{Decides, Each};
 ghost use Rattle.models.specs.Readers.{atoms_of};
-ghost use Rattle.sealed.specs.AtNodes.{AtNode};
 ghost use Rattle.sealed.specs.Texts.{AllTexts, TextAfter, TextOnly};
 ghost use Rattle.sealing.specs.Forks.{AmbiguousIn};
 
@@ -12,15 +11,14 @@ use derivative::known;
 use engine::{ContentAtom, Letter};
 use models::{Node, readers};
 
-// Whether a node's atom, if it has one, stands for text alone.
-fn is_text(node: Node<ContentAtom>) -> bool
-    ensures { Decides result (AtNode TextOnly node) }
+// Whether an atom stands for text alone.
+fn is_text(atom: ContentAtom) -> bool
+    ensures { Decides result (TextOnly atom) }
 {
-    match node {
-        Node::Atom(ContentAtom::Text) => true,
-        Node::Atom(ContentAtom::Element(_)) => false,
-        Node::Atom(ContentAtom::All(last)) => last == 0,
-        _ => true,
+    match atom {
+        ContentAtom::Text => true,
+        ContentAtom::Element(_) => false,
+        ContentAtom::All(last) => last == 0,
     }
 }
 
@@ -28,7 +26,10 @@ fn is_text(node: Node<ContentAtom>) -> bool
 pub fn only_text(nodes: &[Node<ContentAtom>]) -> bool
     ensures { Decides result (Each TextOnly (atoms_of nodes.now)) }
 {
-    nodes.iter().all(|node| is_text(*node))
+    nodes
+        .iter()
+        .filter_map(|node| node.atom())
+        .all(|atom| is_text(atom))
 }
 
 // The atom by which text goes on after another one, the beginning being 0, if a word may also end there.

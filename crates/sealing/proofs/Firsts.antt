@@ -1,5 +1,5 @@
 -- Asking numbers and nodes in turn.
-use Rattle.std.proofs.Common.{◌≡◌, ℕ, zero, suc, ◌+◌, ◌<◌, ◌≤◌, Bool, true, false, List, [], ◌∷◌, length, get_or, take, min, Option, Some, None, refl, sym, ap, ◌∙◌, subst, take_all, zero-add, arith}
+use Rattle.std.proofs.Common.{◌≡◌, ℕ, zero, suc, ◌+◌, ◌<◌, ◌≤◌, Bool, true, false, List, [], ◌∷◌, length, get_or, take, min, Option, Some, None, sym, ap, ◌∙◌, subst, take_all, zero-add, arith}
 use native.Mathlib.Decide.{dec_le}
 use Rattle.std.specs.Bool.{MatchBool}
 use Rattle.std.specs.List.{AllWithin, HoldsAt, range_with_len}

@@ -21,7 +21,6 @@ use Rattle.bits.specs.Sets.{Has, singleton}
 use Rattle.models.specs.Tables.{NodesOf}
 use Rattle.models.specs.declared.node.Model.{Model}
 use Rattle.models.specs.declared.node.Node.{Node}
-use Rattle.models.specs.declared.node.Node.TheVariants as node
 use Rattle.models.proofs.Folding.{codes_one}
 use Rattle.models.proofs.Numbering.{atoms_found, leaves, coded_leaves}
 use Rattle.derivative.specs.Derivation.{derivation, after_state}

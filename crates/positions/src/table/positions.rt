@@ -6,6 +6,7 @@ ghost use Rattle.positions.specs.Walks.{Based};
 
 use super::super::walks::{reading, union_of};
 use super::FollowTable;
+use bits::contains;
 use derivative::BEGINNING;
 use engine::{Alphabet, Engine};
 use models::Model;
@@ -38,7 +39,7 @@ impl<L: Alphabet> Engine for FollowTable<'_, '_, '_, '_, L> {
     }
 
     fn ends(&self, number: u8, state: u64) -> bool {
-        base_of(self.tables.models, number).is_some_and(|base| union_of(self.rows, base, state) % 2
-            == 1)
+        let base = base_of(self.tables.models, number);
+        base.is_some_and(|base| contains(union_of(self.rows, base, state), 0))
     }
 }
