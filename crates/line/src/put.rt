@@ -37,7 +37,7 @@ impl<'o> Writer<'o> {
         ensures same_buffer { self.new.out.ghost_name ≡ self.old.out.ghost_name }
         ensures written { self.old.at ≤ length self.old.out.now → PutPieces (map said pieces.now) self.old.out.now self.old.at self.new.out.now (reached self.new result) }
     {
-        // Kept: in `try_for_each` the closure would write to what it captures, and nothing would be known of that.
+        // Kept: `try_for_each` leaves `same_buffer` open: nothing is known of what its closure borrows and changes.
         for piece in pieces {
             self.put(*piece)?;
         }
