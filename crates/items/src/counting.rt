@@ -8,6 +8,7 @@ use super::item_at;
 pub fn count_items(text: &[u8]) -> Result<usize, usize>
     ensures { Counted text.now result }
 {
+    // Kept: an item's place is known only when the item before it was read, so there is no list to go over.
     let mut at = 0;
     let mut count = 0;
     while at < text.len() {

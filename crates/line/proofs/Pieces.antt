@@ -62,6 +62,10 @@ module _ (bs buffer between : List ℕ) (at middle : ℕ) (first : Put bs buffer
       let less = fell_short put in
       short (simp length-append (omega (arith, (stood first).0, same_room, less)))
 
+-- Behind bytes that were put the buffer has room as before.
+pub still_inside : {ps : List Piece} {buffer after : List ℕ} {at next : ℕ} → PutPieces ps buffer at after (Some next) → next ≤ length after
+still_inside {ps} {buffer} {after} {at} {next} put = omega (arith, (stood put.put).1, same_room put.text buffer after at next put.put)
+
 pub bytes_put : {bs buffer : List ℕ} {at : ℕ} {after : List ℕ} {answer : Option ℕ} → Put bs buffer at after answer → PutPieces (verbatim bs ∷ []) buffer at after answer
 bytes_put {bs} {buffer} {at} {after} {answer} put = record {
   text = bs ++ [];

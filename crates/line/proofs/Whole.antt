@@ -1,10 +1,13 @@
 -- A whole line in a buffer that was zero before.
-use Rattle.std.proofs.Common.{◌≡◌, ℕ, ◌-◌, true, false, is_some, Option, List, ◌++◌, length, drop, replicate, Some, None, refl, ap, ◌∙◌, arith}
+use Rattle.std.proofs.Common.{◌≡◌, ℕ, ◌-◌, ◌≤◌, true, false, is_some, Option, List, ◌++◌, length, drop, replicate, Some, None, sym, refl, ap, ◌∙◌, subst, arith}
 use lib.ListN.{length-replicate}
 use Rattle.std.proofs.lemmas.List.{drop-replicate}
 use Rattle.std.proofs.lemmas.Bool.{both_ways}
 use Rattle.line.specs.Lines.{WrittenLine, OneText, pieces}
+use Rattle.line.specs.Pieces.{Piece}
 use Rattle.line.specs.Placed.{PutPieces}
+use Rattle.line.specs.Reached.{reached}
+use Rattle.line.specs.declared.put.Writer.{Writer}
 use Rattle.line.specs.declared.lines.Line.{Line}
 use Rattle.line.proofs.Pieces.{stood, fell_short, some_text, same_text}
 
@@ -46,14 +49,19 @@ module _ (line : Line) (buffer clean after : List ℕ) (zero_first : clean ≡ z
         };
       }
 
-  -- The same, by whether there is an answer.
-  pub answered : (answer : Option ℕ) → is_some answer ≡ true → PutPieces (pieces line) clean 0 after answer → WrittenLine line buffer after answer
-  answered (Some answer) some put = whole_line answer put
-  answered None some put = absurd (both_ways _ refl some)
+  -- The same, by whether a writer that began at 0 has reached a place.
+  pub answered : (writer : Writer) (r : Option (Unit {0})) → true ≡ is_some r → PutPieces (pieces line) clean 0 writer.out.now (reached writer r) → writer.out.now ≡ after → WrittenLine line buffer after (Some writer.at)
+  answered writer (Some done) some put same = whole_line writer.at (subst (λ l. PutPieces (pieces line) clean 0 l (Some writer.at)) same put)
+  answered writer None some put same = absurd (both_ways _ refl (sym some))
 
-  pub unanswered : (answer : Option ℕ) (between : List ℕ) → is_some answer ≡ false → after ≡ zeros (length between) → length between ≡ length clean → PutPieces (pieces line) clean 0 between answer → WrittenLine line buffer after answer
-  unanswered (Some answer) between none zero-again long put = absurd (both_ways _ none refl)
-  unanswered None between none zero-again long put = no_line between zero-again long put
+  pub unanswered : (writer : Writer) (r : Option (Unit {0})) (between : List ℕ) → false ≡ is_some r → PutPieces (pieces line) clean 0 writer.out.now (reached writer r) → writer.out.now ≡ between → length between ≡ length clean → after ≡ zeros (length between) → WrittenLine line buffer after None
+  unanswered writer (Some done) between none put same long zero-again = absurd (both_ways _ (sym none) refl)
+  unanswered writer None between none put same long zero-again = no_line between zero-again long (subst (λ l. PutPieces (pieces line) clean 0 l None) same put)
+
+-- What a writer put that began at the front of a buffer.
+pub put_from : {ps : List Piece} {buffer clean after : List ℕ} {at : ℕ} {r : Option ℕ} → buffer ≡ clean → at ≡ 0 → (at ≤ length buffer → PutPieces ps buffer at after r) → PutPieces ps clean 0 after r
+put_from {ps} {buffer} {clean} {after} {at} {r} same front put =
+    subst (λ b. PutPieces ps b 0 after r) same (subst (λ k. PutPieces ps buffer k after r) front (put (omega arith)))
 
 pub one_text : OneText
 one_text line =

@@ -3,3 +3,4 @@ pub mod Lines
 pub mod Longest
 pub mod Pieces
 pub mod Placed
+pub mod Reached

@@ -1,9 +1,10 @@
-// Bytes, numbers and pieces that are put into a lent buffer at a place.
+// A writer over a lent buffer: bytes, numbers and pieces are put one behind another.
 
-ghost use Rattle.std.specs.Prelude.{[], ◌∷◌, map};
+ghost use Rattle.std.specs.Prelude.{◌≡◌, ◌≤◌, [], ◌∷◌, length, map};
 ghost use Rattle.line.specs.Decimals.{OneDecimal};
 ghost use Rattle.line.specs.Pieces.{said};
 ghost use Rattle.line.specs.Placed.{Put, Kept, PutNumber, PutPieces};
+ghost use Rattle.line.specs.Reached.{reached};
 
 use itoa::Buffer;
 
@@ -14,49 +15,68 @@ pub enum Piece<'a> {
     Decimal(u64),
 }
 
-impl Piece<'_> {
-    // Puts the piece at the place, and answers the place behind it.
-    fn put(self, out: &mut [u8], at: usize) -> Option<usize>
-        ensures { PutPieces (said self.entry ∷ []) out.old at out.new result }
+// A lent buffer, and the place up to which it is written.
+#[derive(Drop)]
+pub struct Writer<'o> {
+    out: &'o mut [u8],
+    pub at: usize,
+}
+
+impl<'o> Writer<'o> {
+    // A buffer that is to be written from the place on.
+    pub fn new(out: &'o mut [u8], at: usize) -> Writer<'o>
+        ensures same_buffer { result.out.ghost_name ≡ out.entry.ghost_name }
+        ensures bytes { result.out.now ≡ out.old }
+        ensures place { result.at ≡ at }
     {
-        match self {
-            Piece::Verbatim(bytes) => put_bytes(out, at, bytes),
-            Piece::Decimal(number) => put_number(out, at, number),
+        Writer { out, at }
+    }
+
+    // Puts the pieces, one behind another, up to the first that has no room.
+    pub fn put_pieces(&mut self, pieces: &[Piece]) -> Option<()>
+        ensures same_buffer { self.new.out.ghost_name ≡ self.old.out.ghost_name }
+        ensures written { self.old.at ≤ length self.old.out.now → PutPieces (map said pieces.now) self.old.out.now self.old.at self.new.out.now (reached self.new result) }
+    {
+        // Kept: `try_for_each` leaves `same_buffer` open: nothing is known of what its closure borrows and changes.
+        for piece in pieces {
+            self.put(*piece)?;
+        }
+        Some(())
+    }
+
+    fn put(&mut self, piece: Piece) -> Option<()>
+        ensures same_buffer { self.new.out.ghost_name ≡ self.old.out.ghost_name }
+        ensures written { PutPieces (said piece.entry ∷ []) self.old.out.now self.old.at self.new.out.now (reached self.new result) }
+    {
+        match piece {
+            Piece::Verbatim(bytes) => self.put_bytes(bytes),
+            Piece::Decimal(number) => self.put_number(number),
         }
     }
-}
 
-// Puts the pieces one behind another from the beginning of the buffer on, and answers the place behind them.
-pub fn put_pieces(out: &mut [u8], pieces: &[Piece]) -> Option<usize>
-    ensures { PutPieces (map said pieces.now) out.old 0 out.new result }
-{
-    // Kept: in `try_fold` the closure would write to the buffer that it captures, and nothing would be known of it.
-    let mut at = 0;
-    for piece in pieces {
-        at = piece.put(out, at)?;
+    // Puts the text of the number in base ten, if it has room.
+    pub fn put_number(&mut self, number: u64) -> Option<()>
+        ensures same_buffer { self.new.out.ghost_name ≡ self.old.out.ghost_name }
+        ensures written { PutNumber number self.old.out.now self.old.at self.new.out.now (reached self.new result) }
+        ensures same { Kept self.old.out.now self.new.out.now (reached self.new result) }
+        ensures one { OneDecimal }
+    {
+        let mut digits = Buffer::new();
+        self.put_bytes(digits.format(number).as_bytes())
     }
-    Some(at)
-}
 
-// Puts the bytes at the place, and answers the place behind them.
-pub fn put_bytes(out: &mut [u8], at: usize, bytes: &[u8]) -> Option<usize>
-    ensures written { Put bytes.now out.old at out.new result }
-    ensures same { Kept out.old out.new result }
-{
-    let next = at.checked_add(bytes.len())?;
-    if next > out.len() {
-        return None;
+    // Puts the bytes, if they have room.
+    pub fn put_bytes(&mut self, bytes: &[u8]) -> Option<()>
+        ensures same_buffer { self.new.out.ghost_name ≡ self.old.out.ghost_name }
+        ensures written { Put bytes.now self.old.out.now self.old.at self.new.out.now (reached self.new result) }
+        ensures same { Kept self.old.out.now self.new.out.now (reached self.new result) }
+    {
+        let next = self.at.checked_add(bytes.len())?;
+        if next > self.out.len() {
+            return None;
+        }
+        self.out[self.at..next].copy_from_slice(bytes);
+        self.at = next;
+        Some(())
     }
-    out[at..next].copy_from_slice(bytes);
-    Some(next)
-}
-
-// Puts the text of the number in base ten at the place, and answers the place behind it.
-pub fn put_number(out: &mut [u8], at: usize, number: u64) -> Option<usize>
-    ensures written { PutNumber number out.old at out.new result }
-    ensures same { Kept out.old out.new result }
-    ensures one { OneDecimal }
-{
-    let mut digits = Buffer::new();
-    put_bytes(out, at, digits.format(number).as_bytes())
 }

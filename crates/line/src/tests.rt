@@ -5,7 +5,7 @@ use super::lines::{AgreementLayer, LONGEST_LINE, Layer, Line};
 const NAME_OF_32_BYTES: &[u8] = b"a-name-that-has-thirty-two-bytes";
 
 fn is_zero(bytes: &[u8]) -> bool {
-    bytes.iter().copied().max().unwrap_or(0) == 0
+    bytes.iter().all(|byte| *byte == 0)
 }
 
 // Whether the buffer then holds this text and zeros behind it.

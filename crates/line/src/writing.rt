@@ -4,9 +4,10 @@ ghost use Rattle.std.specs.Prelude.{◌≡◌, ◌≤◌, length, IsSome};
 ghost use Rattle.line.specs.Lines.{layer_word, agreement_layer_word, name_label, pieces, WrittenLine, OneText};
 ghost use Rattle.line.specs.Longest.{Typed, NameWithin, NoneLonger};
 ghost use Rattle.line.specs.Placed.{PutPieces};
+ghost use Rattle.line.specs.Reached.{reached};
 
 use super::lines::{AgreementLayer, LONGEST_LINE, LONGEST_NAME, Layer, Line};
-use super::put::{Piece, put_pieces};
+use super::put::{Piece, Writer};
 
 const LINE_END: &[u8] = b"]]\n";
 
@@ -21,66 +22,59 @@ impl Line<'_> {
         ensures room { NameWithin LONGEST_NAME self.now → LONGEST_LINE ≤ length out.old → IsSome result }
     {
         out.fill(0);
-        let length = self.put(out);
-        if length.is_none() {
+        let mut writer = Writer::new(out, 0);
+        if self.put(&mut writer).is_none() {
             out.fill(0);
+            return None;
         }
-        length
+        Some(writer.at)
     }
 
-    fn put(&self, out: &mut [u8]) -> Option<usize>
-        ensures written { PutPieces (pieces self.now) out.old 0 out.new result }
+    fn put(&self, writer: &mut Writer) -> Option<()>
+        ensures same_buffer { writer.new.out.ghost_name ≡ writer.old.out.ghost_name }
+        ensures written { writer.old.at ≤ length writer.old.out.now → PutPieces (pieces self.now) writer.old.out.now writer.old.at writer.new.out.now (reached writer.new result) }
         ensures typed { Typed self.now }
     {
         match *self {
-            Line::Pass { events, bytes } => put_pieces(
-                out,
-                &[
-                    Piece::Verbatim(b"[pass [events "),
-                    Piece::Decimal(events as u64),
-                    Piece::Verbatim(b"] [bytes "),
-                    Piece::Decimal(bytes as u64),
-                    Piece::Verbatim(LINE_END),
-                ],
-            ),
+            Line::Pass { events, bytes } => writer.put_pieces(&[
+                Piece::Verbatim(b"[pass [events "),
+                Piece::Decimal(events as u64),
+                Piece::Verbatim(b"] [bytes "),
+                Piece::Decimal(bytes as u64),
+                Piece::Verbatim(LINE_END),
+            ]),
             Line::Refused {
                 refusal,
                 layer,
                 events,
                 byte,
                 name,
-            } => put_pieces(
-                out,
-                &[
-                    Piece::Verbatim(b"[refused "),
-                    Piece::Decimal(refusal as u64),
-                    Piece::Verbatim(b" [layer "),
-                    Piece::Verbatim(layer.word()),
-                    Piece::Verbatim(b"] [events "),
-                    Piece::Decimal(events as u64),
-                    Piece::Verbatim(b"] [byte "),
-                    Piece::Decimal(byte as u64),
-                    Piece::Verbatim(label_of(name)),
-                    Piece::Verbatim(name),
-                    Piece::Verbatim(LINE_END),
-                ],
-            ),
+            } => writer.put_pieces(&[
+                Piece::Verbatim(b"[refused "),
+                Piece::Decimal(refusal as u64),
+                Piece::Verbatim(b" [layer "),
+                Piece::Verbatim(layer.word()),
+                Piece::Verbatim(b"] [events "),
+                Piece::Decimal(events as u64),
+                Piece::Verbatim(b"] [byte "),
+                Piece::Decimal(byte as u64),
+                Piece::Verbatim(label_of(name)),
+                Piece::Verbatim(name),
+                Piece::Verbatim(LINE_END),
+            ]),
             Line::RefusedAgreement {
                 refusal,
                 layer,
                 byte,
-            } => put_pieces(
-                out,
-                &[
-                    Piece::Verbatim(b"[refused "),
-                    Piece::Decimal(refusal as u64),
-                    Piece::Verbatim(b" [layer "),
-                    Piece::Verbatim(layer.word()),
-                    Piece::Verbatim(b"] [byte "),
-                    Piece::Decimal(byte as u64),
-                    Piece::Verbatim(LINE_END),
-                ],
-            ),
+            } => writer.put_pieces(&[
+                Piece::Verbatim(b"[refused "),
+                Piece::Decimal(refusal as u64),
+                Piece::Verbatim(b" [layer "),
+                Piece::Verbatim(layer.word()),
+                Piece::Verbatim(b"] [byte "),
+                Piece::Decimal(byte as u64),
+                Piece::Verbatim(LINE_END),
+            ]),
         }
     }
 }
