@@ -1,12 +1,14 @@
 -- The declaration at an index of the list, asked and written as it is told.
-use Rattle.std.proofs.Common.{◌≡◌, ℕ, zero, suc, ◌+◌, ◌<◌, ◌≤◌, true, false, eqb, leb, List, [], ◌∷◌, ◌++◌, length, get_or, take, drop, set, Some, None, sym, refl, ap, ◌∙◌, subst, arith, length-take, take_all, le-leb}
+use Rattle.std.proofs.Common.{◌≡◌, ℕ, zero, suc, ◌+◌, ◌<◌, ◌≤◌, Bool, true, false, eqb, leb, List, [], ◌∷◌, ◌++◌, length, get_or, take, drop, set, Some, None, Option, sym, refl, ap, ◌∙◌, subst, arith, length-take, take_all, le-leb}
 use borrow.Author.Tests.{lt-leb}
+use Rattle.std.specs.Option.{option_eq}
+use Rattle.std.proofs.lemmas.Bool.{ne_eqb}
 use Rattle.std.proofs.lemmas.List.{take_more}
 use Rattle.engine.specs.declared.alphabet.ContentAtom.{ContentAtom}
 use Rattle.models.specs.Folds.{code}
 use Rattle.models.specs.declared.node.Model.{Model}
 use Rattle.models.specs.declared.node.Node.{Node}
-use Rattle.scan.specs.Lists.{number_of, name_at, names_at, puts, zero_entry}
+use Rattle.scan.specs.Lists.{number_of, NumberIs, name_at, names_at, puts, zero_entry}
 use Rattle.scan.specs.Names.{Name}
 use Rattle.scan.specs.Readings.{Front, bad, got}
 use Rattle.scan.specs.declared.entry.Entry.{Entry}
@@ -14,13 +16,12 @@ use Rattle.declarations.specs.Answers.{DeclaredAt, DeclaredIs, numbered_names, w
 use Rattle.declarations.specs.Contents.{Declaration, Placed}
 use Rattle.declarations.specs.Readers.{read_declaration}
 use Rattle.declarations.specs.declared.declared.Declared.{Declared}
-use Rattle.drafts.specs.Asks.{Listed, Ready, admitted, asked_by, fit_in}
+use Rattle.drafts.specs.Asks.{Listed, EnteredAs, Answers, fit_in}
 use Rattle.drafts.specs.Drafted.{most}
 use Rattle.drafts.specs.Layouts.{all_code, runs_from}
-use Rattle.drafts.specs.Questions.{Asked, declared_names, model_of, nodes_of, new_name, names_declared}
+use Rattle.drafts.specs.Questions.{Asked, first_no, declared_names, model_of, nodes_of, few_atoms, new_name, names_declared, names_once}
 use Rattle.drafts.specs.Tables.{entry_of, models_in}
-use Rattle.drafts.specs.declared.ask.Ask.{Ask}
-use Rattle.drafts.specs.declared.ask.Ask.TheVariants as ask
+use Rattle.drafts.specs.declared.ask.Entered.{Entered}
 use Rattle.drafts.proofs.Accepting.{YesFrom, none_yes}
 use Rattle.drafts.proofs.Coding.{length_runs}
 use Rattle.drafts.proofs.Counting.{length_entries, length_models}
@@ -101,14 +102,37 @@ new_at text entries found k entry number list at is =
     ∙ ap (eqb (number_of (declared_names (take k found) ++ (p.declaration.name ∷ declared_names (drop (k + 1) found))) p.declaration.name)) (sym before)
     ∙ new_by_number (declared_names (take k found)) p.declaration.name (declared_names (drop (k + 1) found))
 
--- The answer by what is told is the answer to the question.
-pub answered : (asks : Ask) (text : List ℕ) (entries : List Entry) (found : List Placed) (k : ℕ) (entry : Entry) (number : ℕ) (told : Declared) → Listed text entries found → Ready asks found → (at : At text found k entry) → number ≡ number_of (names_at text (take 63 entries)) (name_at text entry) → Told text found entry at.it.declaration told → admitted asks number k told ≡ asked_by asks (declared_names found) (take k found) at.it
-answered ask.Atoms text entries found k entry number told list ready at is says = ap (λ n. leb n 63) says.1.atom_count
-answered ask.NewName text entries found k entry number told list ready at is says = new_at text entries found k entry number list at is
-answered ask.Known text entries found k entry number told list ready at is says = says.1.all_known
-answered ask.Once text entries found k entry number told list ready at is says =
-    let yes-there = yes_at (names_declared most (declared_names found)) [] found k at.it (none_yes (names_declared most (declared_names found)) [] found ready) at.there at.is in
-    says.1.differ (says.1.all_known ∙ yes-there.1)
+-- What a function answers about each declaration, by what is told of it, is the answer to the question.
+module _ (text : List ℕ) (found : List Placed) (Answer : Entered → Bool → Type 0) where
+  pub few_answered : ((e : Entered) (b : Bool) → Answer e b → b ≡ leb e.told.atoms 63) → Answers text found (few_atoms most (declared_names found)) Answer
+  few_answered says = record { says = λ k it there is e so b h. says e b h ∙ ap (λ n. leb n 63) so.told.atom_count }
+
+  pub new_answered : ((e : Entered) (b : Bool) → Answer e b → b ≡ e.is_new) → Answers text found (new_name most (declared_names found)) Answer
+  new_answered says = record { says = λ k it there is e so b h. says e b h ∙ so.new }
+
+  pub known_answered : ((e : Entered) (b : Bool) → Answer e b → b ≡ e.told.known) → Answers text found (names_declared most (declared_names found)) Answer
+  known_answered says = record { says = λ k it there is e so b h. says e b h ∙ so.told.all_known }
+
+  -- That names differ is told where all are declared.
+  pub once_answered : first_no (names_declared most (declared_names found)) [] found ≡ None → ((e : Entered) (b : Bool) → Answer e b → b ≡ e.told.distinct) → Answers text found (names_once most (declared_names found)) Answer
+  once_answered ready says = record {
+    says = λ k it there is e so b h.
+        let yes-there = yes_at (names_declared most (declared_names found)) [] found k it (none_yes (names_declared most (declared_names found)) [] found ready) there is in
+        says e b h ∙ so.told.differ (so.told.all_known ∙ yes-there.1);
+  }
+
+-- What is told of the declaration of an entry, by its name's number.
+pub entered_at : (text : List ℕ) (entries : List Entry) (found : List Placed) (k : ℕ) (entry : Entry) (number : Option ℕ) (told : Declared) (new : Bool) → Listed text entries found → (at : At text found k entry) → NumberIs (number_of (names_at text (take 63 entries)) (name_at text entry)) number → Told text found entry at.it.declaration told → new ≡ option_eq eqb number (Some (k + 1)) → EnteredAs text found k at.it (record { told = told; is_new = new })
+entered_at text entries found k entry number told new list at is says same =
+    record {
+      rest = says.0;
+      told = subst (λ p. DeclaredIs text (declared_names found) p at.it.declaration says.0 told) (ap (λ (e : Entry). e.place) at.entry_is) says.1;
+      new = same ∙ by number is ∙ new_at text entries found k entry (number_of (names_at text (take 63 entries)) (name_at text entry)) list at refl;
+    }
+  where
+    by : (number : Option ℕ) → NumberIs (number_of (names_at text (take 63 entries)) (name_at text entry)) number → option_eq eqb number (Some (k + 1)) ≡ eqb (number_of (names_at text (take 63 entries)) (name_at text entry)) (k + 1)
+    by None none = sym (ne_eqb (number_of (names_at text (take 63 entries)) (name_at text entry)) (k + 1) (λ e. absurd (omega arith)))
+    by (Some n) (e, some) = ap (λ m. eqb m (k + 1)) (sym e)
 
 -- Places that are left are enough for the nodes exactly when all fit.
 pub fits_at : (limit left nodes : ℕ) (names : List Name) (before : List Placed) (p : Placed) → left + nodes_of names before ≡ limit → nodes ≡ length (code (model_of names p)) → nodes ≤ left → fit_in limit names before p ≡ true

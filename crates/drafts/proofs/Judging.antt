@@ -1,5 +1,5 @@
 -- The verdict on a text, from what the passes over it found.
-use Rattle.std.proofs.Common.{◌≡◌, ℕ, ◌-◌, ◌≤◌, min, true, false, List, [], ◌∷◌, length, take, Some, None, Ok, Err, Option, sym, refl, ap, ◌∙◌, subst, arith, le-leb}
+use Rattle.std.proofs.Common.{◌≡◌, ℕ, ◌-◌, ◌≤◌, min, true, false, List, [], ◌∷◌, length, take, Some, None, Ok, Err, Option, Result, MatchResult, IsErrAnd, sym, refl, ap, ◌∙◌, subst, arith, le-leb}
 use Rattle.scan.specs.Lists.{puts}
 use Rattle.scan.specs.Readings.{finished, stopped}
 use Rattle.scan.specs.declared.entry.Entry.{Entry}
@@ -10,7 +10,9 @@ use Rattle.drafts.specs.Asks.{Listed}
 use Rattle.drafts.specs.Drafted.{found_in, declarations}
 use Rattle.drafts.specs.Noted.{Noting, within}
 use Rattle.drafts.specs.Questions.{Room, Asked, Verdict, refused, accepted, first_no, or_ask, ask_all, judge_items, judge, declared_names}
-use Rattle.drafts.specs.Reading.{Tells, AskedText, later_questions}
+use Rattle.std.proofs.lemmas.Result.{err_from_is_err_and}
+use Rattle.drafts.specs.Reading.{Tells, AskedText, later_questions, refuse_at}
+use Rattle.drafts.specs.declared.refusal.Question.{Question}
 use Rattle.drafts.specs.Refusals.{number}
 use Rattle.drafts.specs.Tables.{entries_of}
 use Rattle.drafts.specs.declared.noted.Noted.{Noted}
@@ -83,3 +85,24 @@ module _ (room : Room) (text : List ℕ) (short : length text ≤ 32768) (s : St
             noting.written ∙ ap (λ f. puts before 0 (entries_of text f)) (sym is),
             subst (λ f. Listed text (entries_of text f) f) (sym is) (record { entries_are = refl; read_again = noting.read_again; few = omega (arith, limit_is) }),
           )
+
+-- What a pass answered, where its error is made a refusal.
+pub map_ok : {X E F : Type 0} (P : E → F → Type 0) (r : Result X E) (m : Result X F) (x : X) → MatchResult r (λ y. m ≡ Ok y) (λ e. IsErrAnd m (P e)) → m ≡ Ok x → r ≡ Ok x
+map_ok P (Ok y) m x h is = let same : y ≡ x = cc in ap Ok same
+map_ok P (Err e) m x h is = let p = err_from_is_err_and m h in absurd (let k : ◌≡◌ {A = ℕ} 0 1 = cc in omega arith)
+
+pub map_err : {X E F : Type 0} (P : E → F → Type 0) (Q : E → F → Type 0) (r : Result X E) (m : Result X F) (f : F) → MatchResult r (λ y. m ≡ Ok y) (λ e. IsErrAnd m (P e)) → m ≡ Err f → ((e : E) (g : F) → P e g → Q e g) → (e : E) × (r ≡ Err e) × Q e f
+map_err P Q (Ok y) m f h is says = absurd (let k : ◌≡◌ {A = ℕ} 0 1 = cc in omega arith)
+map_err P Q (Err e) m f h is says =
+    let p = err_from_is_err_and m h in
+    let same : p.0 ≡ f = cc in
+    (e, refl, subst (Q e) same (says e p.0 p.2))
+
+-- A refusal stands where there is a place, and only there.
+pub refuse_some : (question : Question) (b : Option ℕ) (r : Refusal) → refuse_at question b ≡ Err r → (place : ℕ) × (b ≡ Some place) × (r ≡ record { question = question; place = place })
+refuse_some question None r e = absurd (let k : ◌≡◌ {A = ℕ} 0 1 = cc in omega arith)
+refuse_some question (Some place) r e = (place, refl, cc)
+
+pub refuse_none : (question : Question) (b : Option ℕ) (v : Unit {0}) → refuse_at question b ≡ Ok v → b ≡ None
+refuse_none question None v e = refl
+refuse_none question (Some place) v e = absurd (let k : ◌≡◌ {A = ℕ} 0 1 = cc in omega arith)

@@ -1,5 +1,5 @@
 -- One declaration more is noted.
-use Rattle.std.proofs.Common.{◌≡◌, ℕ, ◌+◌, ◌-◌, ◌<◌, ◌≤◌, Bool, true, false, eqb, ◌⊎◌, List, [], ◌∷◌, ◌++◌, length, drop, set, Some, None, Ok, Err, sym, refl, ap, ◌∙◌, inl, inr, zero-add, arith, length-append, length-drop, length-take, le-ltb, lt-ltb, eqb-true}
+use Rattle.std.proofs.Common.{◌≡◌, ℕ, ◌+◌, ◌-◌, ◌<◌, ◌≤◌, Bool, true, false, eqb, ltb, ◌⊎◌, List, [], ◌∷◌, ◌++◌, length, drop, set, Some, None, Ok, Err, Option, sym, refl, ap, ◌∙◌, inl, inr, zero-add, arith, length-append, length-drop, length-take, le-ltb, lt-ltb, ltb-true, eqb-true}
 use borrow.Author.Tests.{eqb-false}
 use Rattle.scan.specs.Lists.{puts}
 use Rattle.scan.proofs.Runs.{run_next, run_over, run_stuck}
@@ -16,7 +16,7 @@ use Rattle.drafts.specs.Noted.{AllRead, Noting, NotedAt, Notes, within}
 use Rattle.drafts.specs.Questions.{first_no}
 use Rattle.drafts.specs.Tables.{entry_of, entries_of}
 use Rattle.drafts.specs.declared.noted.Noted.{Noted}
-use Rattle.drafts.proofs.Asking.{first_no_push, first_no_stays, first_no_more, first_no_at}
+use Rattle.drafts.proofs.Asking.{first_no_push, first_no_stays, first_no_more, first_no_at, none_some}
 use Rattle.drafts.proofs.Counting.{length_entries}
 use Rattle.drafts.proofs.Filling.{puts_append}
 
@@ -48,10 +48,23 @@ none_beyond room before (p ∷ found) h =
     first_no_more (within room) before p found (lt-ltb (length before) room (omega arith))
     ∙ none_beyond room (before ++ (p ∷ [])) found (let l = length-append before (p ∷ []) in omega arith)
 
+-- Where none is beyond, there is room for all.
+pub none_fits : (room : ℕ) (before found : List Placed) → length before ≤ room → first_no (within room) before found ≡ None → length before + length found ≤ room
+none_fits room before [] le none = omega arith
+none_fits room before (p ∷ found) le none = by (ltb (length before) room) refl (none_fits room (before ++ (p ∷ [])) found)
+  where
+    by : (b : Bool) → ltb (length before) room ≡ b → (length (before ++ (p ∷ [])) ≤ room → first_no (within room) (before ++ (p ∷ [])) found ≡ None → length (before ++ (p ∷ [])) + length found ≤ room) → length before + length (p ∷ found) ≤ room
+    by true e go =
+        let l = length-append before (p ∷ []) in
+        let lt : length before < room = ltb-true (length before) room e in
+        let rest = go (omega arith) (sym (first_no_more (within room) before p found e) ∙ none) in
+        omega arith
+    by false e go = absurd (none_some p.place (sym none ∙ first_no_at (within room) before p found e))
+
 module _ (text : List ℕ) (room : ℕ) (before : List Entry) where
-  pub noting_none : (n : Noted) → n.count ≡ 0 → Noting text room before [] n before
-  unfolding puts
-  noting_none n e = record { counted = e; first_beyond = λ h. absurd (omega arith); written = refl; read_again = tt }
+  pub noting_none : (n : Noted) → n.count ≡ 0 → n.beyond ≡ None → Noting text room before [] n before
+  unfolding puts first_no
+  noting_none n e none = record { counted = e; first_beyond = none; written = refl; read_again = tt }
 
   module _ (found : List Placed) (noted : Noted) (after : List Entry) (so_far : Noting text room before found noted after) (p : Placed) where
     here : noted.count ≡ room → first_no (within room) [] (found ++ (p ∷ [])) ≡ Some p.place
@@ -59,15 +72,20 @@ module _ (text : List ℕ) (room : ℕ) (before : List Entry) where
         first_no_push (within room) [] found p (Some p.place) (none_beyond room [] found (omega (arith, so_far.counted)))
         (first_no_at (within room) found p [] (le-ltb (length found) room (omega (arith, so_far.counted))))
 
-    later : (noted.count ≡ room → ⊥) → room < length (found ++ (p ∷ [])) → first_no (within room) [] (found ++ (p ∷ [])) ≡ Some noted.beyond
-    later not h =
-        let l = length-append found (p ∷ []) in
-        first_no_stays (within room) [] found (p ∷ []) noted.beyond (so_far.first_beyond (omega (arith, not, so_far.counted)))
+    later : (noted.count ≡ room → ⊥) → first_no (within room) [] found ≡ first_no (within room) [] (found ++ (p ∷ []))
+    later not = by (first_no (within room) [] found) refl
+      where
+        by : (r : Option ℕ) → first_no (within room) [] found ≡ r → first_no (within room) [] found ≡ first_no (within room) [] (found ++ (p ∷ []))
+        by None e =
+            let l = length-append found (p ∷ []) in
+            let fits = none_fits room [] found (omega arith) e in
+            e ∙ sym (none_beyond room [] (found ++ (p ∷ [])) (omega (arith, not, so_far.counted)))
+        by (Some place) e = e ∙ sym (first_no_stays (within room) [] found (p ∷ []) place e)
 
-    pub noting_more : (rest : List ℕ) → read_declaration (drop p.place text) ≡ got p.declaration rest → (now-noted : Noted) → now-noted.count ≡ noted.count + 1 → (noted.count ≡ room → now-noted.beyond ≡ p.place) → ((noted.count ≡ room → ⊥) → now-noted.beyond ≡ noted.beyond) → (entry : Entry) → entry ≡ entry_of text p → (dec : (noted.count ≡ room) ⊎ (noted.count ≡ room → ⊥)) → Noting text room before (found ++ (p ∷ [])) now-noted (set after noted.count entry)
+    pub noting_more : (rest : List ℕ) → read_declaration (drop p.place text) ≡ got p.declaration rest → (now-noted : Noted) → now-noted.count ≡ noted.count + 1 → (noted.count ≡ room → now-noted.beyond ≡ Some p.place) → ((noted.count ≡ room → ⊥) → now-noted.beyond ≡ noted.beyond) → (entry : Entry) → entry ≡ entry_of text p → (dec : (noted.count ≡ room) ⊎ (noted.count ≡ room → ⊥)) → Noting text room before (found ++ (p ∷ [])) now-noted (set after noted.count entry)
     noting_more rest reads n count yes-there not_there entry is dec = record {
       counted = let l = length-append found (p ∷ []) in omega (arith, so_far.counted);
-      first_beyond = λ h. by dec h;
+      first_beyond = by dec;
       written =
           let e = ap (λ k. set after k entry) (so_far.counted ∙ sym (length_entries text found)) in
           let w = ap (λ t. set t (length (entries_of text found)) entry) so_far.written in
@@ -77,9 +95,9 @@ module _ (text : List ℕ) (room : ℕ) (before : List Entry) where
       read_again = read_append text found p so_far.read_again (rest, reads);
     }
       where
-        by : (noted.count ≡ room) ⊎ (noted.count ≡ room → ⊥) → room < length (found ++ (p ∷ [])) → first_no (within room) [] (found ++ (p ∷ [])) ≡ Some n.beyond
-        by (inl e) h = here e ∙ ap Some (sym (yes-there e))
-        by (inr e) h = later e h ∙ ap Some (sym (not_there e))
+        by : (noted.count ≡ room) ⊎ (noted.count ≡ room → ⊥) → n.beyond ≡ first_no (within room) [] (found ++ (p ∷ []))
+        by (inl e) = yes-there e ∙ sym (here e)
+        by (inr e) = not_there e ∙ so_far.first_beyond ∙ later e
 
 with_nothing : {A : Type 0} (xs : List A) → xs ++ [] ≡ xs
 with_nothing [] = refl
@@ -93,14 +111,14 @@ decide a b = by (eqb a b) refl
     by false e = inr (eqb-false a b e)
 
 -- What is told of a declaration is its entry.
-entry_exact : (text : List ℕ) (at : ℕ) (d : Declaration) (rest : List ℕ) (names : List Name) (told : Declared) → DeclaredIs text names at d rest told → ◌≡◌ {A = Entry} (record { place = at; start = told.name_start; end = told.name_end }) (entry_of text (record { place = at; declaration = d }))
+entry_exact : (text : List ℕ) (at : ℕ) (d : Declaration) (rest : List ℕ) (names : List Name) (told : Declared) → DeclaredIs text names at d rest told → ◌≡◌ {A = Entry} (record { place = at; name = told.name }) (entry_of text (record { place = at; declaration = d }))
 entry_exact text at d rest names told is =
     let n = ap length is.name in
-    let t = length-take (told.name_end - told.name_start) (drop told.name_start text) in
-    let l = length-drop told.name_start text in
-    let end : told.name_end ≡ told.name_start + length d.name = omega (arith, is.name_forward, is.name_before, is.stands.inside) in
-    ap (λ e. record { place = at; start = told.name_start; end = e }) end
-    ∙ ap (λ s. record { place = at; start = s; end = s + length d.name }) is.begins
+    let t = length-take (told.name.end - told.name.start) (drop told.name.start text) in
+    let l = length-drop told.name.start text in
+    let end : told.name.end ≡ told.name.start + length d.name = omega (arith, is.name_forward, is.name_before, is.stands.inside) in
+    ap (λ e. record { place = at; name = record { start = told.name.start; end = e } }) end
+    ∙ ap (λ s. record { place = at; name = record { start = s; end = s + length d.name } }) is.begins
 
 -- The pass goes on: behind an item without a declaration, and behind one.
 module _ (text : List ℕ) (room : ℕ) (before : List Entry) (at : ℕ) (noted : Noted) (after : List Entry) (so_far : NotedAt text room before at noted after) where
@@ -124,7 +142,7 @@ module _ (text : List ℕ) (room : ℕ) (before : List Entry) (at : ℕ) (noted 
     decl : Placed
     decl = record { place = at; declaration = d }
 
-    pub noted_declared : (now-noted : Noted) (entry : Entry) → now-noted.count ≡ noted.count + 1 → (noted.count ≡ room → now-noted.beyond ≡ at) → ((noted.count ≡ room → ⊥) → now-noted.beyond ≡ noted.beyond) → entry ≡ record { place = at; start = told.name_start; end = told.name_end } → read_declaration (drop at text) ≡ got d rest → NotedAt text room before told.end now-noted (set after noted.count entry)
+    pub noted_declared : (now-noted : Noted) (entry : Entry) → now-noted.count ≡ noted.count + 1 → (noted.count ≡ room → now-noted.beyond ≡ Some at) → ((noted.count ≡ room → ⊥) → now-noted.beyond ≡ noted.beyond) → entry ≡ record { place = at; name = told.name } → read_declaration (drop at text) ≡ got d rest → NotedAt text room before told.end now-noted (set after noted.count entry)
     unfolding decl
     noted_declared n entry count yes-there not_there e reads =
         let s : State = record { place = at; found = so_far.found } in

@@ -1,5 +1,5 @@
 -- What the first pass over a text of declarations notes.
-use Rattle.std.specs.Prelude.{◌≡◌, ℕ, ◌<◌, ◌≤◌, List, [], ◌∷◌, length, drop, Some, Ok, Err, Result, nat_lt}
+use Rattle.std.specs.Prelude.{◌≡◌, ℕ, ◌≤◌, List, [], ◌∷◌, length, drop, Ok, Err, Result, nat_lt}
 use Rattle.scan.specs.Lists.{puts}
 use Rattle.scan.specs.Readings.{got, finished, stopped, run}
 use Rattle.scan.specs.declared.entry.Entry.{Entry}
@@ -19,11 +19,11 @@ abbrev pub AllRead : List ℕ → List Placed → Type 0
 AllRead text [] = Unit {0}
 AllRead text (p ∷ ps) = ((rest : List ℕ) × (read_declaration (drop p.place text) ≡ got p.declaration rest)) × AllRead text ps
 
--- What is noted of these declarations: how many there are, the place of the first without room, and their entries,
--- written over the table.
+-- What is noted of these declarations: how many there are, the place of the first without room, if there is one, and
+-- their entries, written over the table.
 pub record Noting (text : List ℕ) (room : ℕ) (before : List Entry) (found : List Placed) (noted : Noted) (after : List Entry) : Type 0 where
   pub counted : noted.count ≡ length found
-  pub first_beyond : room < length found → first_no (within room) [] found ≡ Some noted.beyond
+  pub first_beyond : noted.beyond ≡ first_no (within room) [] found
   pub written : after ≡ puts before 0 (entries_of text found)
   pub read_again : AllRead text found
 

@@ -13,8 +13,7 @@ use Rattle.drafts.specs.Questions.{model_of}
 abbrev pub entry_of : List ℕ → Placed → Entry
 entry_of text p = record {
   place = p.place;
-  start = name_start text p.place;
-  end = name_start text p.place + length p.declaration.name;
+  name = record { start = name_start text p.place; end = name_start text p.place + length p.declaration.name };
 }
 
 abbrev pub entries_of : List ℕ → List Placed → List Entry

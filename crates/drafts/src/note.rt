@@ -1,38 +1,27 @@
 // The first pass over a text of declarations: is each item of the form, and where do the declarations stand?
 
-ghost use Rattle.std.specs.Prelude.{◌≡◌, ◌+◌, ◌-◌, ◌^◌, ◌<◌, ◌≢◌, slice_set};
+ghost use Rattle.std.specs.Prelude.{◌≡◌, ◌+◌, ◌-◌, ◌^◌, ◌<◌, ◌≢◌, Some, slice_set};
 ghost use Rattle.drafts.specs.Noted.{Notes};
 
 use super::noted::Noted;
-use declarations::{Declared, Piece, item_at};
+use declarations::{Piece, item_at};
 use scan::{Entry, put};
 
 // Notes one declaration more, with its entry in the table if it has a place there.
 fn note_one(entries: &mut [Entry], room: usize, noted: Noted, entry: Entry) -> Noted
     ensures written { entries.new ≡ slice_set entries.old noted.count entry }
     ensures counted { noted.count < 2 ^ 64 - 1 → result.count ≡ noted.count + 1 }
-    ensures here { noted.count ≡ room → result.beyond ≡ entry.place }
+    ensures here { noted.count ≡ room → result.beyond ≡ Some entry.place }
     ensures later { (noted.count ≢ room) → result.beyond ≡ noted.beyond }
 {
     put(entries, noted.count, entry);
     Noted {
         count: noted.count.saturating_add(1),
         beyond: if noted.count == room {
-            entry.place
+            Some(entry.place)
         } else {
             noted.beyond
         },
-    }
-}
-
-// The entry of a declaration that stands at a place.
-fn entry_of(place: usize, told: Declared) -> Entry
-    ensures { result ≡ record { place = place; start = told.name_start; end = told.name_end } }
-{
-    Entry {
-        place,
-        start: told.name_start,
-        end: told.name_end,
     }
 }
 
@@ -43,14 +32,18 @@ pub fn note(text: &[u8], entries: &mut [Entry], room: usize) -> Result<Noted, us
     let mut at = 0;
     let mut noted = Noted {
         count: 0,
-        beyond: 0,
+        beyond: None,
     };
     loop {
         match item_at(text, at, &[]) {
             Piece::Blanks(end) => at = end,
             Piece::Comment(end) => at = end,
             Piece::Declaration(told) => {
-                noted = note_one(entries, room, noted, entry_of(at, told));
+                let entry = Entry {
+                    place: at,
+                    name: told.name,
+                };
+                noted = note_one(entries, room, noted, entry);
                 at = told.end;
             }
             Piece::End => return Ok(noted),

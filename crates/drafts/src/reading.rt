@@ -3,16 +3,19 @@
 ghost use Rattle.std.specs.Prelude.{◌≡◌, min, length};
 ghost use Rattle.drafts.specs.Reading.{AskedOfAll, AskedText, ReadInto, refuse_at};
 
-use super::ask::{Ask, first_no, first_overfull};
+use super::ask::{first_no, first_overfull};
 use super::note::note;
 use super::refusal::{Question, Refusal};
 use super::write::write_models;
 use engine::ContentAtom;
 use models::{Model, Node};
-use scan::Entry;
+use scan::{Entry, Span};
 
 // The most bytes that a text may have.
 const MOST_BYTES: usize = 32_768;
+
+// The most atoms that a model may have.
+const MOST_ATOMS: usize = 63;
 
 // The most declarations that a text may have.
 const MOST_DECLARATIONS: usize = 63;
@@ -26,28 +29,28 @@ pub const ZERO_MODEL: Model = Model { start: 0, end: 0 };
 // The zero of a table of entries.
 pub const ZERO_ENTRY: Entry = Entry {
     place: 0,
-    start: 0,
-    end: 0,
+    name: Span { start: 0, end: 0 },
 };
 
 // A refusal where there is a place, which got a no.
 fn refuse_at(question: Question, place: Option<usize>) -> Result<(), Refusal>
     ensures { result ≡ refuse_at question place }
 {
-    match place {
-        Some(place) => Err(Refusal { question, place }),
-        None => Ok(()),
-    }
+    place.map_or(Ok(()), |place| Err(Refusal { question, place }))
 }
 
 // Asks everything about the declarations at these entries, question by question.
 fn ask_declarations(text: &[u8], entries: &[Entry], nodes: usize) -> Result<(), Refusal>
     ensures { AskedOfAll text.now entries.now nodes result }
 {
-    refuse_at(Question::Atoms, first_no(text, entries, Ask::Atoms))?;
-    refuse_at(Question::NewName, first_no(text, entries, Ask::NewName))?;
-    refuse_at(Question::Declared, first_no(text, entries, Ask::Known))?;
-    refuse_at(Question::Once, first_no(text, entries, Ask::Once))?;
+    let overgrown = first_no(text, entries, |it| it.told.atoms <= MOST_ATOMS);
+    refuse_at(Question::Atoms, overgrown)?;
+    let repeated = first_no(text, entries, |it| it.is_new);
+    refuse_at(Question::NewName, repeated)?;
+    let undeclared = first_no(text, entries, |it| it.told.known);
+    refuse_at(Question::Declared, undeclared)?;
+    let doubled = first_no(text, entries, |it| it.told.distinct);
+    refuse_at(Question::Once, doubled)?;
     refuse_at(
         Question::Nodes,
         first_overfull(text, entries, nodes.min(MOST_NODES)),
@@ -71,24 +74,13 @@ fn ask_text(
         });
     }
     let room = models.min(entries.len()).min(MOST_DECLARATIONS);
-    let noted = match note(text, entries, room) {
-        Ok(noted) => noted,
-        Err(place) => {
-            return Err(Refusal {
-                question: Question::Form,
-                place,
-            });
-        }
-    };
-    if noted.count > room {
-        return Err(Refusal {
-            question: Question::Record,
-            place: noted.beyond,
-        });
-    }
-    let count = noted.count;
-    ask_declarations(text, &entries[0..count], nodes)?;
-    Ok(count)
+    let noted = note(text, entries, room).map_err(|place| Refusal {
+        question: Question::Form,
+        place,
+    })?;
+    refuse_at(Question::Record, noted.beyond)?;
+    ask_declarations(text, &entries[0..noted.count], nodes)?;
+    Ok(noted.count)
 }
 
 // Reads a text of declarations into the tables, and answers how many there are. After a refusal all tables are zero;

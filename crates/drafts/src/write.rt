@@ -17,12 +17,11 @@ pub fn write_models(
     ensures { WritesModels text.now entries.now nodes.old nodes.new models.old models.new }
 {
     let mut used: usize = 0;
-    for index in 0..entries.len() {
-        let place = entries[index].place;
-        let Some(told) = declaration_at(text, place, entries) else {
+    for (index, entry) in entries.iter().enumerate() {
+        let Some(told) = declaration_at(text, entry.place, entries) else {
             return;
         };
-        write_model(text, place, entries, nodes, used);
+        write_model(text, entry.place, entries, nodes, used);
         let end = used.saturating_add(told.nodes);
         put(models, index, Model { start: used, end });
         used = end;

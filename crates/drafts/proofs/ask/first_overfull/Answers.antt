@@ -13,13 +13,13 @@ pub loop-entry-init : goal.loop-entry-init
 unfolding first_no
 loop-entry-init c = λ found list. (refl, omega arith)
 
-pub returns-in_default : goal.returns-in_default
-returns-in_default c = λ found list.
+pub returns-in_err-told : goal.returns-in_err-told
+returns-in_err-told c = λ found list.
     let text = c.args.text.now in
     let entries = c.args.entries.now in
     let k = c.loop-entry.entry-index in
     let inside : k < length entries = omega arith in
-    absurd (not_none text found k (get_or entries k zero_entry) (numbered_names text entries) (listed_at text entries found k list inside) c.in_default.ensures)
+    absurd (not_none text found k (get_or entries k zero_entry) (numbered_names text entries) (listed_at text entries found k list inside) c.in_err-told.ensures)
 
 pub returns-then-told-left : goal.returns-then-told-left
 returns-then-told-left c = λ found list.
@@ -28,9 +28,9 @@ returns-then-told-left c = λ found list.
     let k = c.loop-entry.entry-index in
     let entry = get_or entries k zero_entry in
     let names = declared_names found in
-    let told = c.in-Some.told in
+    let told = c.in_ok-told.told in
     let at = listed_at text entries found k list (omega arith) in
-    let says = told_at text entries found k entry told list at c.in-Some.ensures in
+    let says = told_at text entries found k entry told list at c.in_ok-told.ensures in
     let so = c.loop-entry.invariant found list in
     let no-here = beyond_at c.args.limit c.loop-entry.left told.nodes names (take k found) at.it so.1 says.1.node_count c.if-told-left.true in
     ap (λ (e : Entry). Some e.place) at.entry_is ∙ sym (loop_no (fit_in c.args.limit names) found k at.it at.there at.is no-here so.0)
@@ -42,9 +42,9 @@ loop-entry-preserved c = λ found list.
     let k = c.loop-entry.entry-index in
     let entry = get_or entries k zero_entry in
     let names = declared_names found in
-    let told = c.in-Some.told in
+    let told = c.in_ok-told.told in
     let at = listed_at text entries found k list (omega arith) in
-    let says = told_at text entries found k entry told list at c.in-Some.ensures in
+    let says = told_at text entries found k entry told list at c.in_ok-told.ensures in
     let so = c.loop-entry.invariant found list in
     let fits : told.nodes ≤ c.loop-entry.left = c.if-told-left.false in
     let yes-here = fits_at c.args.limit c.loop-entry.left told.nodes names (take k found) at.it so.1 says.1.node_count fits in

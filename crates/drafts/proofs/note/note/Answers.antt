@@ -1,5 +1,4 @@
-use Rattle.std.proofs.Common.{[], sym, refl, ap, ◌∙◌, subst, arith}
-use Rattle.scan.specs.declared.entry.Entry.{Entry}
+use Rattle.std.proofs.Common.{[], sym, refl, subst, arith}
 use Rattle.drafts.specs.Noted.{NotedAt}
 use Rattle.drafts.proofs.Noting.{noting_none, noted_passed, noted_declared, notes_end, notes_unread}
 use Rattle.drafts.proofs.note.note.Goals as goal
@@ -10,7 +9,7 @@ loop-end-init c = record {
   read_on = refl;
   inside = omega arith;
   small = omega arith;
-  noting = noting_none c.args.text.now c.args.room c.args.entries.now _ refl;
+  noting = noting_none c.args.text.now c.args.room c.args.entries.now _ refl refl;
 }
 
 pub loop-end-preserved-in-Blanks : goal.loop-end-preserved-in-Blanks
@@ -29,7 +28,7 @@ loop-end-preserved c =
     let inv = c.loop-end.invariant in
     let count = one.counted (omega (arith, inv.noting.counted, inv.small, inv.inside, told.3.longer, told.3.stands.inside)) in
     subst (NotedAt text c.args.room c.args.entries.now c.in-Declaration.told.end c.note_one-noted.result) (sym one.written)
-    (noted_declared text c.args.room c.args.entries.now c.loop-end.at c.loop-end.noted c.loop-end.entries inv [] c.in-Declaration.told told.0 told.1 told.3 told.4 c.note_one-noted.result c.entry_of.result count (λ e. one.here e ∙ ap (λ (x : Entry). x.place) c.entry_of.ensures) one.later c.entry_of.ensures told.2)
+    (noted_declared text c.args.room c.args.entries.now c.loop-end.at c.loop-end.noted c.loop-end.entries inv [] c.in-Declaration.told told.0 told.1 told.3 told.4 c.note_one-noted.result _ count one.here one.later refl told.2)
 
 pub returns-in-End : goal.returns-in-End
 returns-in-End c =
