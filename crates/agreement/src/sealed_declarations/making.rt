@@ -29,12 +29,13 @@ impl<'t, 'n, 'm, 'e> SealedDeclarations<'t, 'n, 'm, 'e> {
         ensures languages { OnOk result (SpeaksText draft.old.text.now (⟦<Sealed<'n, 'm> as Engine>⟧.language self.new.tables)) }
     {
         let mut tables = Sealed::empty();
-        if let Err(why) = tables.fill(draft.nodes(), draft.models()) {
-            return Err(refuse(draft.entries(), why));
-        }
+        let entries = draft.entries();
+        tables
+            .fill(draft.nodes(), draft.models())
+            .map_err(|why| refuse(entries, why))?;
         *self = SealedDeclarations {
             text: draft.text(),
-            entries: draft.entries(),
+            entries,
             tables,
         };
         *draft = Draft::empty();
