@@ -11,12 +11,8 @@ use sealed::Unsealed;
 fn place_of(entries: &[Entry], number: u8) -> usize
     ensures { result ≡ place_at entries.now number }
 {
-    let at = (number as usize).saturating_sub(1);
-    if at < entries.len() {
-        entries[at].place
-    } else {
-        0
-    }
+    let at = usize::from(number).saturating_sub(1);
+    entries.get(at).map_or(0, |entry| entry.place)
 }
 
 // The refusal of a draft, for the first reason why its tables may not be sealed.

@@ -30,16 +30,17 @@ impl<'t, 'n, 'm, 'e> SealedDeclarations<'t, 'n, 'm, 'e> {
         ensures languages { OnOk result (SpeaksText draft.old.text.now (⟦<Sealed<'n, 'm> as Engine>⟧.language self.new.tables)) }
     {
         let mut tables = Sealed::empty();
+        let entries = draft.entries();
         let drafted = Tables {
             nodes: draft.nodes(),
             models: draft.models(),
         };
-        if let Err(why) = tables.fill(drafted) {
-            return Err(refuse(draft.entries(), why));
-        }
+        tables
+            .fill(drafted)
+            .map_err(|why| refuse(entries, why))?;
         *self = SealedDeclarations {
             text: draft.text(),
-            entries: draft.entries(),
+            entries,
             tables,
         };
         *draft = Draft::empty();

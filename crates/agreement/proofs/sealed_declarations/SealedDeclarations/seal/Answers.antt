@@ -1,4 +1,4 @@
-use Rattle.std.proofs.Common.{◌≡◌, ℕ, ◌-◌, List, ◌++◌, length, replicate, Ok, Err, sym, refl, ap, ◌∙◌, subst}
+use Rattle.std.proofs.Common.{◌≡◌, ℕ, ◌-◌, List, ◌++◌, length, replicate, Ok, Err, Result, MatchResult, sym, ap, ◌∙◌, subst, rules}
 use Rattle.engine.specs.Atoms.{StandsFor}
 use Rattle.engine.specs.declared.alphabet.ContentAtom.{ContentAtom}
 use Rattle.models.specs.Tables.{Speaks}
@@ -10,7 +10,9 @@ use Rattle.drafts.specs.Drafted.{declarations, text_models, most}
 use Rattle.drafts.specs.Layouts.{all_code, runs_from}
 use Rattle.drafts.specs.Tables.{entries_of, filled}
 use Rattle.drafts.specs.declared.refusal.Refusal.{Refusal}
+use Rattle.std.proofs.lemmas.Result.{err_from_is_err_and}
 use Rattle.drafts.proofs.Accepting.{accepted_yes}
+use Rattle.drafts.proofs.Judging.{map_ok, map_err}
 use Rattle.sealed.specs.Checks.{Judged}
 use Rattle.sealed.specs.contracts.sealed.SealedEngine.TheImpl.{ghosts as meaning}
 use Rattle.sealed.specs.declared.questions.Unsealed.{Unsealed}
@@ -27,26 +29,30 @@ of_text P t nodes models ns ms h = subst (P _) ms (subst (λ x. P x models) ns h
 refused : (t : List ℕ) (entries : List Entry) (why : Unsealed) (r : Refusal) → entries ≡ entries_of t (declarations t) → r ≡ refusal_of entries why → SealAnswer t (Err (refusal_of (entries_of t (declarations t)) why)) → SealAnswer t (Err r)
 refused t entries why r es is h = subst (λ x. SealAnswer t (Err x)) (sym (is ∙ ap (λ x. refusal_of x why) es)) h
 
-pub returns-in-Err : goal.returns-in-Err
-returns-in-Err c =
+pub returns-in_err-map_err-clause-answer : goal.returns-in_err-map_err-clause-answer
+returns-in_err-map_err-clause-answer c =
     let t = c.args.draft.now.text.now in
     let accepted = accepted_yes most t c.args.draft.now.asked in
     let after = replicate (length c.nodes.result.now - length (all_code (text_models t))) Unused in
-    let judged = of_text (λ ns ms. Judged ns ms (Err c.in-Err.why)) t c.nodes.result.now c.models.result.now c.nodes.ensures c.models.ensures c.in-Err.ensures.answer in
-    record {
-      answer = refused t c.entries.result.now c.in-Err.why c.refuse.result c.entries.ensures c.refuse.ensures (sealed_not t accepted after c.in-Err.why judged);
-      made = (refl, refl);
-      languages = tt;
-    }
+    let q = map_err _ (λ why r. ◌≡◌ {A = Refusal} r (refusal_of c.entries-entries.result.now why)) c.fill.result c.map_err.result c.in_err-map_err.field-0.0 c.map_err.ensures.cases c.in_err-map_err.was (λ why r h. search rules) in
+    let answered = subst (Judged c.nodes.result.now c.models.result.now) q.1 c.fill.ensures.answer in
+    let judged = of_text (λ ns ms. Judged ns ms (Err q.0)) t c.nodes.result.now c.models.result.now c.nodes.ensures c.models.ensures answered in
+    let p = err_from_is_err_and c.from_residual.result c.from_residual.ensures.1 in
+    subst (SealAnswer t) (sym (p.1 ∙ ap Err p.2))
+    (refused t c.entries-entries.result.now q.0 c.in_err-map_err.field-0.0 c.entries-entries.ensures q.2 (sealed_not t accepted after q.0 judged))
+
+says : (P : Unit {0} → Type 0) (Q : Unsealed → Type 0) {r : Result (Unit {0}) Unsealed} → r ≡ Ok tt → MatchResult r P Q → P tt
+says P Q {r} e h = subst (λ x. MatchResult x P Q) e h
 
 pub invariant_of-self : goal.invariant_of-self
 invariant_of-self c =
-    let held = c.in_default.ensures.tables in
+    let filled_in = map_ok _ c.fill.result c.map_err.result c.in_ok-map_err.field-0 c.map_err.ensures.cases c.in_ok-map_err.was in
+    let held = subst (λ r. MatchResult r (λ _. (c.fill.new.self.engine.tables.nodes.now ≡ c.nodes.result.now) × (c.fill.new.self.engine.tables.models.now ≡ c.models.result.now)) (λ _. c.fill.new.self ≡ c.empty-tables.result)) filled_in c.fill.ensures.tables in
     let P : List (Node ContentAtom) → Type 0 = λ ns. ns ≡ filled Unused (length ns) (all_code (text_models c.text.result.now)) in
     let t : c.args.draft.now.text.now ≡ c.text.result.now = sym c.text.ensures in
     let coded : P c.nodes.result.now = subst (λ x. c.nodes.result.now ≡ filled Unused (length c.nodes.result.now) (all_code (text_models x))) t c.nodes.ensures in
     record {
-      named = subst (λ x. c.entries-2.result.now ≡ entries_of x (declarations x)) t c.entries-2.ensures;
+      named = subst (λ x. c.entries-entries.result.now ≡ entries_of x (declarations x)) t c.entries-entries.ensures;
       coded = ∣ subst P (sym held.0) coded ∣₁;
       placed = ∣ held.1 ∙ c.models.ensures ∙ ap (λ x. runs_from 0 (text_models x)) t ∣₁;
     }
@@ -56,8 +62,8 @@ returns c =
     let t = c.args.draft.now.text.now in
     let accepted = accepted_yes most t c.args.draft.now.asked in
     let after = replicate (length c.nodes.result.now - length (all_code (text_models t))) Unused in
-    let judged = of_text (λ ns ms. Judged ns ms (Ok tt)) t c.nodes.result.now c.models.result.now c.nodes.ensures c.models.ensures c.in_default.ensures.answer in
-    let speaks = of_text (λ ns ms. Speaks StandsFor ns ms (meaning.language c.fill.new.self)) t c.nodes.result.now c.models.result.now c.nodes.ensures c.models.ensures c.in_default.ensures.languages in
+    let judged = of_text (λ ns ms. Judged ns ms (Ok tt)) t c.nodes.result.now c.models.result.now c.nodes.ensures c.models.ensures (subst (Judged c.nodes.result.now c.models.result.now) (map_ok _ c.fill.result c.map_err.result tt c.map_err.ensures.cases c.in_ok-map_err.was) c.fill.ensures.answer) in
+    let speaks = of_text (λ ns ms. Speaks StandsFor ns ms (meaning.language c.fill.new.self)) t c.nodes.result.now c.models.result.now c.nodes.ensures c.models.ensures (says _ _ (map_ok _ c.fill.result c.map_err.result tt c.map_err.ensures.cases c.in_ok-map_err.was) c.fill.ensures.languages) in
     record {
       answer = sealed_ok t accepted after tt judged;
       made = (c.text.ensures, c.empty.ensures);
