@@ -1,7 +1,8 @@
 -- The stages of a reading, by the byte that comes next.
-use Rattle.std.proofs.Common.{◌≡◌, ℕ, ◌+◌, ◌<◌, Bool, true, false, eqb, List, [], ◌∷◌, length, drop, sym, refl, ap, ◌∙◌}
+use Rattle.std.proofs.lemmas.Bool.Decides.{nat_tests}
+use Rattle.std.proofs.Common.{◌≡◌, ℕ, ◌+◌, ◌<◌, Bool, true, false, eqb, List, [], ◌∷◌, length, drop, refl, ap, ◌∙◌, arith}
 use Rattle.std.proofs.lemmas.List.{drop_more}
-use Rattle.std.proofs.lemmas.Bool.{eqb-true, eqb-false, eq-eqb, ne_eqb, false≢true}
+use Rattle.std.proofs.lemmas.Bool.{false≢true}
 use Rattle.models.specs.Expressions.{Exp}
 use Rattle.scan.specs.Bytes.{first_is, skip}
 use Rattle.scan.proofs.Fronts.{first_there}
@@ -11,11 +12,7 @@ use Rattle.declarations.specs.Grammar.{Joint, sign, join}
 use Rattle.declarations.specs.Readers.{read_cp, joined_by, member_at, member, behind, in_brackets, members_of}
 
 pub flip : (a b : ℕ) → eqb a b ≡ eqb b a
-flip a b = by (eqb a b) refl
-  where
-    by : (r : Bool) → eqb a b ≡ r → eqb a b ≡ eqb b a
-    by true e = e ∙ sym (eq-eqb b a (sym (eqb-true a b e)))
-    by false e = e ∙ sym (ne_eqb b a (λ same. eqb-false a b e (sym same)))
+flip a b = grind (arith, nat_tests)
 
 -- Whether this byte comes next.
 abbrev pub comes : ℕ → List ℕ → Bool
