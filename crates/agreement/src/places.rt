@@ -16,6 +16,7 @@ fn place_of(entries: &[Entry], number: u8) -> usize
 }
 
 // The refusal of a draft, for the first reason why its tables may not be sealed.
+// Kept: no `From`, which has no place for the entries that a refusal needs beside the reason.
 pub fn refuse(entries: &[Entry], why: Unsealed) -> Refusal
     ensures { result ≡ refusal_of entries.now why }
 {

@@ -1,38 +1,29 @@
 -- The stages of a reading, by the byte that comes next.
-use Rattle.std.proofs.Common.{◌≡◌, ℕ, ◌+◌, ◌<◌, ◌≤◌, Bool, true, false, eqb, List, [], ◌∷◌, length, get_or, drop, sym, refl, ap, ◌∙◌, inl, inr}
-use Rattle.std.proofs.lemmas.List.{drop_more, drop_all}
-use Rattle.std.proofs.lemmas.Bool.{eqb-true, eqb-false, eq-eqb, ne_eqb, cases_lt, false≢true, both_ways}
+use Rattle.std.proofs.lemmas.Bool.Decides.{nat_tests}
+use Rattle.std.proofs.Common.{◌≡◌, ℕ, ◌+◌, ◌<◌, Bool, true, false, eqb, List, [], ◌∷◌, length, drop, refl, ap, ◌∙◌, arith}
+use Rattle.std.proofs.lemmas.List.{drop_more}
+use Rattle.std.proofs.lemmas.Bool.{false≢true}
 use Rattle.models.specs.Expressions.{Exp}
 use Rattle.scan.specs.Bytes.{first_is, skip}
+use Rattle.scan.proofs.Fronts.{first_there}
 use Rattle.scan.specs.Names.{Name}
 use Rattle.scan.specs.Readings.{Front, bad, got, over, stuck, next}
 use Rattle.declarations.specs.Grammar.{Joint, sign, join}
 use Rattle.declarations.specs.Readers.{read_cp, joined_by, member_at, member, behind, in_brackets, members_of}
 
 pub flip : (a b : ℕ) → eqb a b ≡ eqb b a
-flip a b = by (eqb a b) refl
-  where
-    by : (r : Bool) → eqb a b ≡ r → eqb a b ≡ eqb b a
-    by true e = e ∙ sym (eq-eqb b a (sym (eqb-true a b e)))
-    by false e = e ∙ sym (ne_eqb b a (λ same. eqb-false a b e (sym same)))
+flip a b = grind (arith, nat_tests)
 
 -- Whether this byte comes next.
 abbrev pub comes : ℕ → List ℕ → Bool
 comes k t = first_is (eqb k) t
-
-pub first_at : (test : ℕ → Bool) (text : List ℕ) (at : ℕ) → at < length text → first_is test (drop at text) ≡ test (get_or text at 0)
-first_at test text at h = ap (first_is test) (drop_more text at 0 h)
-
-pub first_past : (test : ℕ → Bool) (text : List ℕ) (at : ℕ) → length text ≤ at → first_is test (drop at text) ≡ false
-first_past test text at h = ap (first_is test) (drop_all at text h)
 
 pub behind_drop : (text : List ℕ) (at : ℕ) → at < length text → behind (drop at text) ≡ drop (at + 1) text
 behind_drop text at h = ap behind (drop_more text at 0 h)
 
 -- Where a byte comes next the text has a byte there.
 pub inside : (k : ℕ) (text : List ℕ) (at : ℕ) → comes k (drop at text) ≡ true → at < length text
-inside k text at there =
-    elim (cases_lt at (length text)) [ inl lt ↦ lt | inr le ↦ absurd (both_ways _ (first_past (eqb k) text at le) there) ]
+inside k text at there = first_there (eqb k) text at there
 
 module _ (group : List ℕ → Front (Exp Name)) where
   pub brackets_yes : (t : List ℕ) → comes 40 t ≡ true → in_brackets group t ≡ members_of group (read_cp group (skip (behind t)))

@@ -25,7 +25,7 @@ use Rattle.drafts.specs.declared.ask.Entered.{Entered}
 use Rattle.drafts.proofs.Accepting.{YesFrom, none_yes}
 use Rattle.drafts.proofs.Coding.{length_runs}
 use Rattle.drafts.proofs.Counting.{length_entries, length_models}
-use Rattle.drafts.proofs.Filling.{puts_append}
+use Rattle.scan.proofs.Writing.{puts_append, puts_one}
 use Rattle.drafts.proofs.Laying.{models_append, code_append, runs_append, nodes_counted, nodes_append}
 use Rattle.drafts.proofs.Looping.{at_place, read_at, names_around, length_names}
 use Rattle.drafts.proofs.Naming.{entry_name, entry_names}
@@ -163,10 +163,6 @@ pub record WrittenSoFar (names : List Name) (found : List Placed) (nodes nodes-a
 pub written_none : (names : List Name) (nodes : List (Node ContentAtom)) (models : List Model) → WrittenSoFar names [] nodes nodes models models 0
 unfolding puts
 written_none names nodes models = record { nodes_are = refl; models_are = refl; used_is = refl }
-
-puts_one : {A : Type 0} (t : List A) (at : ℕ) (x : A) → puts t at (x ∷ []) ≡ set t at x
-unfolding puts
-puts_one t at x = refl
 
 -- One model more is written.
 pub written_push : (names : List Name) (found : List Placed) (p : Placed) (nodes nodes-so nodes-after : List (Node ContentAtom)) (models models-so models-after : List Model) (used end : ℕ) → WrittenSoFar names found nodes nodes-so models models-so used → nodes-after ≡ puts nodes-so used (code (model_of names p)) → end ≡ used + length (code (model_of names p)) → models-after ≡ set models-so (length found) (record { start = used; end = end }) → WrittenSoFar names (found ++ (p ∷ [])) nodes nodes-after models models-after end

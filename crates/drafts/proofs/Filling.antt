@@ -1,21 +1,8 @@
 -- Lists written over a table.
-use Rattle.std.proofs.Common.{◌≡◌, ℕ, zero, suc, ◌+◌, ◌-◌, ◌≤◌, List, [], ◌∷◌, ◌++◌, length, take, drop, set, replicate, sym, refl, ap, ◌∙◌, append_assoc, add-zero, arith, length-append, length-set}
+use Rattle.std.proofs.Common.{◌≡◌, ℕ, zero, suc, ◌+◌, ◌-◌, ◌≤◌, List, [], ◌∷◌, ◌++◌, length, take, drop, set, replicate, sym, refl, ap, ◌∙◌, append_assoc, arith, length-append}
 use lib.Seq.{take-append_seam}
 use Rattle.scan.specs.Lists.{puts}
 use Rattle.drafts.specs.Tables.{filled}
-
--- Written one after the other.
-pub puts_append : {A : Type 0} (t : List A) (at : ℕ) (xs ys : List A) → puts t at (xs ++ ys) ≡ puts (puts t at xs) (at + length xs) ys
-unfolding puts
-puts_append t at [] ys = ap (λ k. puts t k ys) (sym (add-zero at))
-puts_append t at (x ∷ xs) ys =
-    puts_append (set t at x) (at + 1) xs ys
-    ∙ ap (λ k. puts (puts (set t at x) (at + 1) xs) k ys) (let k : (at + 1) + length xs ≡ at + suc (length xs) = omega arith in k)
-
-pub length_puts : {A : Type 0} (t : List A) (at : ℕ) (xs : List A) → length (puts t at xs) ≡ length t
-unfolding puts
-length_puts t at [] = refl
-length_puts t at (x ∷ xs) = length_puts (set t at x) (at + 1) xs ∙ length-set t at x
 
 set_seam : {A : Type 0} (xs : List A) (y : A) (ys : List A) (x : A) → set (xs ++ (y ∷ ys)) (length xs) x ≡ xs ++ (x ∷ ys)
 set_seam [] y ys x = refl

@@ -18,7 +18,7 @@ use Rattle.drafts.specs.Tables.{entry_of, entries_of}
 use Rattle.drafts.specs.declared.noted.Noted.{Noted}
 use Rattle.drafts.proofs.Asking.{first_no_push, first_no_stays, first_no_more, first_no_at, none_some}
 use Rattle.drafts.proofs.Counting.{length_entries}
-use Rattle.drafts.proofs.Filling.{puts_append}
+use Rattle.scan.proofs.Writing.{puts_append, puts_one}
 
 -- The state behind an item stands at the place where the item ends.
 pub item_moves : (text : List ℕ) (at end : ℕ) (rest : List ℕ) (found more : List Placed) → at ≤ length text → Stands text at rest end → moved (record { place = at; found = found }) (drop at text) rest more ≡ record { place = end; found = found ++ more }
@@ -31,10 +31,6 @@ item_moves text at end rest found more inside s =
 entries_append : (text : List ℕ) (found : List Placed) (p : Placed) → entries_of text (found ++ (p ∷ [])) ≡ entries_of text found ++ (entry_of text p ∷ [])
 entries_append text [] p = refl
 entries_append text (q ∷ found) p = ap (λ t. entry_of text q ∷ t) (entries_append text found p)
-
-puts_one : {A : Type 0} (t : List A) (at : ℕ) (x : A) → puts t at (x ∷ []) ≡ set t at x
-unfolding puts
-puts_one t at x = refl
 
 read_append : (text : List ℕ) (found : List Placed) (p : Placed) → AllRead text found → (rest : List ℕ) × (read_declaration (drop p.place text) ≡ got p.declaration rest) → AllRead text (found ++ (p ∷ []))
 read_append text [] p all one = (one, tt)

@@ -22,7 +22,8 @@ use Rattle.drafts.specs.Writes.{WritesModels}
 use Rattle.drafts.proofs.Accepting.{Accepted, YesFrom, accepted_yes, none_yes, few_records}
 use Rattle.drafts.proofs.Coding.{length_runs}
 use Rattle.drafts.proofs.Counting.{length_models, length_entries}
-use Rattle.drafts.proofs.Filling.{length_puts, puts_behind, puts_front}
+use Rattle.writing.proofs.Writing.{length_puts}
+use Rattle.drafts.proofs.Filling.{puts_behind, puts_front}
 use Rattle.drafts.proofs.Laying.{nodes_append, nodes_counted}
 
 -- With a yes for each declaration, all nodes together fit.

@@ -85,6 +85,7 @@ fn ask_text(
 
 // Reads a text of declarations into the tables, and answers how many there are. After a refusal all tables are zero;
 // else the places that are not used are.
+// Kept: three slices, since `Draft::read` takes its BlankTables apart to hold the tables after a yes.
 pub fn read_into(
     text: &[u8],
     nodes: &mut [Node<ContentAtom>],

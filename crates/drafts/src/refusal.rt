@@ -20,6 +20,7 @@ pub enum Question {
 }
 
 impl Question {
+    // Kept: a question has a number; `u8::from(question)` would not say what the byte is.
     pub fn number(self) -> u8
         ensures { result ≡ number self }
     {
