@@ -13,11 +13,6 @@ returns-in_err-next-clause-written c =
     let less : length writer.out.now < writer.at + length bytes = omega (arith, c.in_err-next.ensures) in
     subst (λ r. Put bytes writer.out.now writer.at writer.out.now (reached writer r)) (sym c.from_residual.ensures) (short less)
 
-pub returns-in_err-next-clause-same : goal.returns-in_err-next-clause-same
-returns-in_err-next-clause-same c =
-    let writer = c.args.self.now in
-    subst (λ r. Kept writer.out.now writer.out.now (reached writer r)) (sym c.from_residual.ensures) refl
-
 pub returns-then-next-self-clause-written : goal.returns-then-next-self-clause-written
 returns-then-next-self-clause-written c = short (omega (arith, c.in_ok-next.ensures.1))
 

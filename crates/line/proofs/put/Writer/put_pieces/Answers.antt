@@ -3,9 +3,6 @@ use Rattle.line.specs.Reached.{reached}
 use Rattle.line.proofs.Pieces.{still_inside, piece_then, piece_short, no_piece}
 use Rattle.line.proofs.put.Writer.put_pieces.Goals as goal
 
-pub loop-piece-init : goal.loop-piece-init
-loop-piece-init c = (refl, λ inside. inside, λ after answer put. put)
-
 pub loop-piece-preserved : goal.loop-piece-preserved
 loop-piece-preserved c = (
   c.put.ensures.same_buffer ∙ c.loop-piece.invariant.0,
