@@ -35,9 +35,7 @@ impl<'t, 'n, 'm, 'e> SealedDeclarations<'t, 'n, 'm, 'e> {
             nodes: draft.nodes(),
             models: draft.models(),
         };
-        tables
-            .fill(drafted)
-            .map_err(|why| refuse(entries, why))?;
+        tables.fill(drafted).map_err(|why| refuse(entries, why))?;
         *self = SealedDeclarations {
             text: draft.text(),
             entries,
