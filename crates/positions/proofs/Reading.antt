@@ -48,10 +48,6 @@ module _ {A : Type 0} (e : Exp A) (few : atoms e ≤ 63) where
         | inr k ↦ let z = has_power 0 n (has_guarded (ends_in (singleton p) (one p 0 e)) 1 n k).1 in absurd (omega arith)
       ]
 
-  pub row_in : (p n : ℕ) → Has (row e p) n → n ≤ 63
-  row_in p zero h = omega arith
-  row_in p (suc n) h = let k = after_in p (suc n) (row_next p (suc n) (omega arith) h) in omega arith
-
   pub next_row : (p n : ℕ) → Has (after_state (singleton p) (one p 0 e)) n → Has (row e p) n
   next_row p n h = has_or_l (after_state (singleton p) (one p 0 e)) (guarded (ends_in (singleton p) (one p 0 e)) 1) n h
 

@@ -2,15 +2,12 @@
 use Rattle.std.proofs.Common.{◌≡◌, ℕ, suc, ◌+◌, ◌*◌, ◌/◌, ◌%◌, ◌^◌, ◌<◌, ◌≤◌, Bool, true, false, List, length, get_or, sym, refl, ap, ◌∙◌, subst, inl, inr, arith}
 use native.Mathlib.Decide.{dec_le}
 use lib.Bits.{bit_and, bit_or}
-use Rattle.engine.specs.Languages.{Decides, Same}
+use Rattle.engine.specs.Languages.{Decides}
 use Rattle.bits.specs.Sets.{Has, guarded, singleton}
-use Rattle.models.specs.Tables.{ModelWords, ModelRest, Speaks}
-use Rattle.models.specs.declared.node.Model.{Model}
 use Rattle.models.specs.declared.node.Node.{Node}
 use Rattle.models.specs.declared.node.Node.TheVariants as node
-use Rattle.bits.proofs.Bits.{has_or, has_or_l, has_or_r, has_and, and_has, has_guarded, guarded_has, has_single, single_has, has_small, has_none}
-use Rattle.derivative.proofs.Stepping.{speaks}
-use Rattle.positions.specs.Columns.{Sorts, Sorted, Columns, Complete}
+use Rattle.bits.proofs.Bits.{has_or, has_or_l, has_or_r, has_and, and_has, has_guarded, guarded_has, has_single, single_has, has_small}
+use Rattle.positions.specs.Columns.{Sorts, Sorted, Complete}
 use Rattle.positions.specs.Walks.{Kept}
 
 decided : {P : Type 0} (t : Bool) → Decides t P → t ≡ true → P
@@ -22,10 +19,7 @@ told true d p = refl
 told false d p = absurd (d p)
 
 module _ {A X : Type 0} (stands : A → X → Type 0) (falls : X → ℕ) (atoms : List (Node A)) where
-  -- A column of no atoms yet, and with one atom more.
-  pub sorted_none : (base bucket : ℕ) → Sorted stands falls atoms base bucket 0 0
-  sorted_none base bucket q = (λ h. absurd (has_none q h), λ h. let lt = h.0 in absurd (omega arith))
-
+  -- A column with one atom more.
   pub sorted_more : (base bucket n found : ℕ) (t : Bool) → n < 64 → Decides t (Sorts stands falls (get_or atoms (base + n) node.Unused) bucket) → Sorted stands falls atoms base bucket n found → Sorted stands falls atoms base bucket (n + 1) (bit_or found (guarded t (singleton n)))
   sorted_more base bucket n found t lt d so_far q = (
     λ h. elim (has_or found (guarded t (singleton n)) q h) [
@@ -44,10 +38,6 @@ module _ {A X : Type 0} (stands : A → X → Type 0) (falls : X → ℕ) (atoms
     ],
   )
 
-  -- Exact columns miss no atom.
-  pub columns_complete : (columns : List ℕ) → Columns stands falls atoms columns → Complete stands falls atoms columns
-  columns_complete columns all i q (inside, small, sorts) = (all i inside q).1 (small, sorts)
-
   module _ (columns : List ℕ) (complete : Complete stands falls atoms columns) (few : (x : X) → falls x < 64) where
     -- What a walk over the column of the letter's bucket keeps is what a walk over all would keep.
     pub kept_all : (number base : ℕ) → base ≡ 64 * number → base + 64 ≤ length columns → (x : X) (u k : ℕ) → u < 2 ^ 64 → Kept stands atoms base x (bit_and u (get_or columns (base + falls x) 0)) k → Kept stands atoms base x u k
@@ -61,14 +51,3 @@ module _ {A X : Type 0} (stands : A → X → Type 0) (falls : X → ℕ) (atoms
           let here = complete (base + falls x) n (omega arith, has_small u n fits h.0, (a, ap (λ i. get_or atoms i node.Unused) at ∙ is, (x, reads, of))) in
           (kept n).1 (and_has u (get_or columns (base + falls x) 0) n h.0 here, h.1),
     )
-
--- A table that holds the nodes and records it was filled from has their languages.
-module _ {A X : Type 0} (stands : A → X → Type 0) {nodes held : List (Node A)} {models kept : List Model} (same_nodes : held ≡ nodes) (same_models : kept ≡ models) where
-  pub speaks_held : Speaks stands nodes models (ModelWords stands held kept)
-  speaks_held =
-      subst (λ ns. Speaks stands ns models (ModelWords stands held kept)) same_nodes (subst (λ ms. Speaks stands held ms (ModelWords stands held kept)) same_models (speaks stands held kept))
-
-  pub rests_held : (number state : ℕ) → Same (ModelRest stands held kept number state) (ModelRest stands nodes models number state)
-  rests_held number state =
-      subst (λ ns. Same (ModelRest stands held kept number state) (ModelRest stands ns models number state)) same_nodes
-      (subst (λ ms. Same (ModelRest stands held kept number state) (ModelRest stands held ms number state)) same_models (λ w. (λ h. h, λ h. h)))

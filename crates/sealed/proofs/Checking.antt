@@ -1,21 +1,10 @@
 -- What is found of models is what the definitions say.
-use Rattle.std.proofs.Common.{ℕ, ◌≤◌, Bool, true, false, List, [], length, Option, sym, subst, arith, take_all}
-use Rattle.engine.specs.Languages.{Each, Decides}
+use Rattle.std.proofs.Common.{ℕ, ◌≤◌, List, [], length, Option, subst, arith, take_all}
 use Rattle.engine.specs.declared.alphabet.ContentAtom.{ContentAtom}
-use Rattle.models.specs.Expressions.{Exp}
-use Rattle.models.specs.Folds.{Codes}
-use Rattle.models.specs.Readers.{atoms_of}
-use Rattle.models.specs.Tables.{NodesOf}
 use Rattle.models.specs.declared.node.Model.{Model}
 use Rattle.models.specs.declared.node.Node.{Node}
 use Rattle.sealing.specs.Questions.{FirstNo, HasTree, HasNoTree, IsAmbiguous, Unambiguous, elements}
-use Rattle.sealed.specs.Checks.{Names, HasModel, Sealable}
-
-module _ (nodes : List (Node ContentAtom)) (models : List Model) (n : ℕ) (slice : List (Node ContentAtom)) (is : NodesOf nodes models n slice) where
-  pub model_told : (e : Exp ContentAtom) → Codes 64 slice e → (b : Bool) → Decides b (Each (Names (length models)) (atoms_of slice)) → Decides b (HasModel nodes models n)
-  model_told e c true h = (e, (is e).0 c, subst (λ ns. Each (Names (length models)) (atoms_of ns)) c.coded h)
-  model_told e c false h =
-      λ (f, d, k). h (subst (λ ns. Each (Names (length models)) (atoms_of ns)) (sym ((is f).1 d).coded) k)
+use Rattle.sealed.specs.Checks.{Sealable}
 
 -- With at most 63 records, all of them are of elements.
 module _ (nodes : List (Node ContentAtom)) (models : List Model) (few : length models ≤ 63) (answer : Option ℕ) where

@@ -3,7 +3,6 @@ use Rattle.std.proofs.Common.{◌≡◌, ℕ, zero, suc, ◌<◌, ◌≤◌, tru
 use borrow.Author.Tests.{both_ways}
 use Rattle.std.proofs.lemmas.Bool.{cases_eq}
 use Rattle.bits.specs.Sets.{has}
-use Rattle.bits.proofs.Sets as sets
 use Rattle.engine.specs.Atoms.{StandsFor}
 use Rattle.engine.specs.Languages.{Each}
 use Rattle.engine.specs.Trees.{IsText}
@@ -128,17 +127,6 @@ pub record Walked (nodes : List (Node ContentAtom)) (seen last : ℕ) : Type 0 w
   pub walk : (e : Exp ContentAtom) → Codes 64 nodes e → Walk e seen last
   pub some : (p : ℕ) → has seen p ≡ true → (e : Exp ContentAtom) × Codes 64 nodes e
   pub low : last ≤ 63
-
-pub walked_none : (nodes : List (Node ContentAtom)) → Walked nodes 0 0
-walked_none nodes = record {
-  walk = λ e c. record {
-    onward = λ p h. absurd (both_ways (has 0 p) (sets.empty p) h);
-    beginning = inr refl;
-    led = λ never. (0, λ w h. inl (single_has 0 (omega arith), h));
-  };
-  some = λ p h. absurd (both_ways (has 0 p) (sets.empty p) h);
-  low = omega arith;
-}
 
 module _ (nodes : List (Node ContentAtom)) (seen last more q : ℕ) (w : Walked nodes seen last) (found : TextAfter nodes last (Some q)) (here : has more last ≡ true) (others : (k : ℕ) → (k ≡ last → ⊥) → has more k ≡ has seen k) where
   kept : (k : ℕ) → has seen k ≡ true → has more k ≡ true

@@ -18,8 +18,6 @@ use Rattle.models.specs.Folds.{Codes, Folded, value}
 use Rattle.models.specs.Marks.{Mark}
 use Rattle.models.specs.Readers.{Numbered, Readers, atom_in, atoms_of}
 use Rattle.bits.specs.Sets.{Has, singleton}
-use Rattle.models.specs.Tables.{NodesOf}
-use Rattle.models.specs.declared.node.Model.{Model}
 use Rattle.models.specs.declared.node.Node.{Node}
 use Rattle.models.proofs.Folding.{codes_one}
 use Rattle.models.proofs.Numbering.{atoms_found, leaves, coded_leaves}
@@ -28,7 +26,6 @@ use Rattle.derivative.specs.declared.derive.Derived.{Derived}
 use Rattle.derivative.proofs.Knowing.{iff_member, Agrees}
 use Rattle.derivative.proofs.Stepping.{readers_agree}
 use Rattle.sealing.specs.Forks.{After, Forks, ForksIn, ForksBy, AmbiguousIn, Several}
-use Rattle.sealing.specs.Questions.{IsAmbiguous, Unambiguous}
 use Rattle.sealing.proofs.Firsts.{each_of}
 use Rattle.sealing.proofs.Marking.{reads_next, fork_ambiguous, ambiguous_fork}
 
@@ -129,11 +126,3 @@ ambiguous_told nodes false never =
     let none : (a : ContentAtom) → Type 0 = λ a. (p : ℕ) → p ≤ 63 → ForksIn nodes (content_sample a) p → ⊥ in
     found_none nodes
     (subst (Each none) (atoms_found nodes) (each_of none content.Text (filter_map atom_in nodes) (λ k lt p low f. never (k, lt, (p, low, f)))))
-
--- From the nodes of a number to the number.
-module _ (nodes : List (Node ContentAtom)) (models : List Model) (n : ℕ) (slice : List (Node ContentAtom)) (is : NodesOf nodes models n slice) where
-  pub ambiguous_number : AmbiguousIn slice → IsAmbiguous nodes models n
-  ambiguous_number (e, c, m) = (e, (is e).0 c, m)
-
-  pub unambiguous_number : (AmbiguousIn slice → ⊥) → Unambiguous nodes models n
-  unambiguous_number never (e, c, m) = never (e, (is e).1 c, m)
