@@ -1,5 +1,7 @@
 -- Which bytes each state of the value engine admits, what is left after them, and how it opens.
-use Rattle.std.proofs.Common.{◌≡◌, ℕ, ◌<◌, ◌≤◌, ◌⊎◌, List, [], ◌∷◌, ◌++◌, get_or, Some, sym, refl, ap, ◌∙◌, subst, inl, inr, arith}
+use Rattle.std.proofs.Common.{◌≡◌, ℕ, ◌<◌, ◌≤◌, ◌⊎◌, List, [], ◌∷◌, ◌++◌, get_or, Some, Bool, true, false, sym, refl, ap, ◌∙◌, subst, inl, inr, arith}
+use Rattle.std.specs.Bool.{Decides, then_some}
+use mathlib.Core.Bool.{true≢false}
 use mathlib.Core.List.{cons≢nil}
 use Rattle.engine.specs.Languages.{Language, Answers, Empty, Inhabited, Each, residue}
 use Rattle.bakery.specs.Values.{IsDigit, Hundredths, left_out, written, HoursText, Reads}
@@ -144,3 +146,8 @@ opens n is = (
   (48 ∷ [], (is, (48, [], [], refl, ((omega arith, omega arith), tt), left_out refl))),
   λ w. (λ h. (is, placed 1 w h), λ h. whole refl h.1),
 )
+
+-- No other number opens.
+pub opened : (n : ℕ) (b : Bool) → Decides b (n ≡ 5) → Answers (Reads n) ValueLeft (then_some b 1)
+opened n true told = opens n (told.0 refl)
+opened n false told = λ w h. absurd (true≢false (sym (told.1 h.0)))

@@ -36,7 +36,7 @@ impl Engine for HoursValues {
     ghost rest = { λ _ _. ValueLeft };
 
     fn open(&self, number: u8) -> Option<u64> {
-        if number == HOURS { Some(WHOLE) } else { None }
+        (number == HOURS).then_some(WHOLE)
     }
 
     fn step(&self, _number: u8, state: u64, letter: u8) -> Option<u64> {

@@ -21,6 +21,7 @@ pub enum Refusal {
 }
 
 impl Refusal {
+    // Kept: a refusal has a number; u8::from(refusal) would not say what the byte is.
     pub fn number(self) -> u8
         ensures { result ≡ number self }
     {

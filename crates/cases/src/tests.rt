@@ -2,28 +2,26 @@
 
 use super::instances::definitions_are_inhabited;
 use super::lists::{mend_week, told_apart};
-use sheet::{Answer, Granted};
-
-// An answer as one number: 0 where it accepts, the number of its refusal, or the events of its pass.
-fn code(answer: Answer) -> u32 {
-    match answer {
-        Ok(Granted::Accepted) => 0,
-        Ok(Granted::Passed { events, .. }) => events,
-        Err(refusal) => u32::from(refusal.number()),
-    }
-}
+use bakery::SHEET;
+use sheet::{Granted, Refusal};
 
 #[test]
 fn a_sheet_consults_its_values(rt: HostRuntime) {
     let mut valued = [Ok(Granted::Accepted); 12];
     let mut free = [Ok(Granted::Accepted); 12];
     told_apart(&mut valued, &mut free);
-    assert!(rt; code(valued[3]) == 0);
-    assert!(rt; code(valued[4]) == 36);
-    assert!(rt; code(valued[10]) == 39);
-    assert!(rt; code(valued[11]) == 0);
-    assert!(rt; code(free[4]) == 0);
-    assert!(rt; code(free[10]) == 9);
+    assert_eq!(rt; valued[3], Ok(Granted::Accepted));
+    assert_eq!(rt; valued[4], Err(Refusal::Offending));
+    assert_eq!(rt; valued[10], Err(Refusal::RootOpen));
+    assert_eq!(rt; valued[11], Ok(Granted::Accepted));
+    assert_eq!(rt; free[4], Ok(Granted::Accepted));
+    assert_eq!(rt;
+        free[10],
+        Ok(Granted::Passed {
+            root: SHEET,
+            events: 9
+        })
+    );
 }
 
 #[test]
@@ -31,9 +29,21 @@ fn a_correction_comes_before_the_lock(rt: HostRuntime) {
     let mut late = [Ok(Granted::Accepted); 17];
     let mut mended = [Ok(Granted::Accepted); 21];
     mend_week(&mut late, &mut mended);
-    assert!(rt; code(late[14]) == 36);
-    assert!(rt; code(late[16]) == 14);
-    assert!(rt; code(mended[12]) == 0);
-    assert!(rt; code(mended[20]) == 19);
+    assert_eq!(rt; late[14], Err(Refusal::Offending));
+    assert_eq!(rt;
+        late[16],
+        Ok(Granted::Passed {
+            root: SHEET,
+            events: 14
+        })
+    );
+    assert_eq!(rt; mended[12], Ok(Granted::Accepted));
+    assert_eq!(rt;
+        mended[20],
+        Ok(Granted::Passed {
+            root: SHEET,
+            events: 19
+        })
+    );
     assert!(rt; definitions_are_inhabited());
 }

@@ -54,3 +54,11 @@ module _ {A : Type 0} (rest : ℕ → Language A) where
       ((t : ℕ) → P t → Decides b (rest t [])) → Decides b (rest s w)
   told_by s w None b P got none ends = subst (λ x. Decides x (rest s w)) (sym none) (untold s w got)
   told_by s w (Some t) b P got p ends = decides_iff b (told s t w got) (ends t p)
+
+  -- Whether the whole word lies in a language, by a test of the state reached from the one that stands for the language.
+  pub told_from : (L : Language A) (w : List A) (o r : Option ℕ) (b : Bool) (Q P : ℕ → Type 0) → Answers L rest o → MatchOption o (r ≡ None) Q →
+      ((s : ℕ) → Q s → Advanced rest s w r) → MatchOption r (b ≡ false) P → ((t : ℕ) → P t → Decides b (rest t [])) → Decides b (L w)
+  told_from L w None r b Q P never none steps last ends =
+      subst (λ x. Decides x (L w)) (sym (subst (λ x. MatchOption x (b ≡ false) P) none last)) (never w)
+  told_from L w (Some s) r b Q P (some, same) q steps last ends =
+      decides_iff b (same w) (told_by s w r b P (steps s q) last ends)

@@ -19,8 +19,8 @@ pub fn advance<E: Engine>(engine: &E, number: u8, state: u64, word: &[E::Letter]
 pub fn match_word<E: Engine>(engine: &E, number: u8, word: &[E::Letter]) -> bool
     ensures { Decides result (E.Engine.language engine.now number word.now) }
 {
-    let Some(first) = engine.open(number) else {
-        return false;
-    };
-    advance(engine, number, first, word).is_some_and(|last| engine.ends(number, last))
+    engine
+        .open(number)
+        .and_then(|first| advance(engine, number, first, word))
+        .is_some_and(|last| engine.ends(number, last))
 }

@@ -177,6 +177,13 @@ module _ (M : Meaning) where
           ap starts led ∙ (open_count (l ∷ ls) ∙ ap (λ es. ends es + length (l ∷ ls)) (sym led)) in
           omega arith
 
+  -- Finish before the root's start.
+  pub finish_begun : (s : State) (calls : List Call) → s.phase ≡ phase.Begun → Stands M s calls → Right M.contents M.values calls finish (refused 39)
+  finish_begun s calls is st =
+      let h = subst (λ p. StandsAt M p s calls) is st in
+      let nothing : starts (events calls) ≡ 0 = ap starts h.4 in
+      inr (underway s calls h.0 h.1, inl ((λ (some, even). omega arith), refl))
+
   -- Finish while something is open.
   pub finish_open : (s : State) (calls : List Call) → s.phase ≡ phase.Open → Stands M s calls → Right M.contents M.values calls finish (refused 39)
   finish_open s calls is st =

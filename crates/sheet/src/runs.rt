@@ -41,6 +41,7 @@ fn send_granted<C: Content, V: Engine<Letter = u8>>(
 {
     let mut sheet = Sheet::make(engines);
     let mut sent = 0;
+    // Kept: only granted calls take a place, and after a zip of iter_mut() no proof knows what the places hold.
     for (call, answer) in calls.iter().zip(answers) {
         if answer.is_ok() && sent < again.len() {
             again[sent] = sheet.answer(*call);

@@ -70,9 +70,7 @@ impl<'e, C: Content, V: Engine<Letter = u8>> Sheet<'e, C, V> {
     fn ask_root(&self, number: u8) -> Result<Change, Refusal>
         ensures { self.now.state.phase ≡ Begun → Asked (meaning C.Engine V.Engine self.now.engines) self.now.state (start number) result }
     {
-        let Some(frame) = self.engines.open_frame(number) else {
-            return Err(Refusal::NotKnown);
-        };
+        let frame = self.engines.open_frame(number).ok_or(Refusal::NotKnown)?;
         if number != self.state.root {
             return Err(Refusal::Offending);
         }
@@ -86,15 +84,12 @@ impl<'e, C: Content, V: Engine<Letter = u8>> Sheet<'e, C, V> {
     fn ask_child(&self, number: u8) -> Result<Change, Refusal>
         ensures { self.now.state.phase ≡ Open → Asked (meaning C.Engine V.Engine self.now.engines) self.now.state (start number) result }
     {
-        let Some(child) = self.engines.open_frame(number) else {
-            return Err(Refusal::NotKnown);
-        };
-        let Some(top) = self.state.top() else {
-            return Err(Refusal::NotUnderway);
-        };
-        let Some(parent) = self.engines.read_letter(top, Letter::Element(number)) else {
-            return Err(Refusal::Offending);
-        };
+        let child = self.engines.open_frame(number).ok_or(Refusal::NotKnown)?;
+        let top = self.state.top().ok_or(Refusal::NotUnderway)?;
+        let parent = self
+            .engines
+            .read_letter(top, Letter::Element(number))
+            .ok_or(Refusal::Offending)?;
         if self.state.frames.is_full() {
             return Err(Refusal::TooDeep);
         }
@@ -111,12 +106,11 @@ impl<'e, C: Content, V: Engine<Letter = u8>> Sheet<'e, C, V> {
         if bytes.is_empty() {
             return Err(Refusal::NotKnown);
         }
-        let Some(top) = self.state.top() else {
-            return Err(Refusal::NotUnderway);
-        };
-        let Some(frame) = self.engines.read_text(top, bytes) else {
-            return Err(Refusal::Offending);
-        };
+        let top = self.state.top().ok_or(Refusal::NotUnderway)?;
+        let frame = self
+            .engines
+            .read_text(top, bytes)
+            .ok_or(Refusal::Offending)?;
         if self.state.count >= MAX_EVENTS {
             return Err(Refusal::TooMany);
         }
@@ -130,9 +124,7 @@ impl<'e, C: Content, V: Engine<Letter = u8>> Sheet<'e, C, V> {
         if !self.engines.is_declared(number) {
             return Err(Refusal::NotKnown);
         }
-        let Some(top) = self.state.top() else {
-            return Err(Refusal::NotUnderway);
-        };
+        let top = self.state.top().ok_or(Refusal::NotUnderway)?;
         if number != top.number || !self.engines.is_complete(top) {
             return Err(Refusal::Offending);
         }
@@ -211,8 +203,7 @@ impl<'e, C: Content, V: Engine<Letter = u8>> Sheet<'e, C, V> {
     {
         match self.state.phase {
             Phase::Fresh | Phase::Passed => Err(Refusal::NotUnderway),
-            Phase::Begun => Err(Refusal::RootOpen),
-            Phase::Open => Err(Refusal::RootOpen),
+            Phase::Begun | Phase::Open => Err(Refusal::RootOpen),
             Phase::Ended => {
                 self.state.phase = Phase::Passed;
                 Ok(Pass {

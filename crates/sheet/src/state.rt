@@ -34,6 +34,7 @@ pub enum Change {
 
 // The state: where the sheet is, the root begun with, the open elements from outer to inner, and how many
 // events were accepted.
+// Kept: four of the five phases have the root; variants would write it four times.
 #[derive(Drop)]
 pub struct State {
     pub phase: Phase,
