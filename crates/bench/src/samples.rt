@@ -7,6 +7,7 @@ use models::{Model, Node};
 use std::alloc::{AllocError, Global};
 use std::fmt;
 
+// Kept: engines take an element by its number, a byte.
 const SHEET: u8 = 1;
 
 const WEEK: u8 = 2;

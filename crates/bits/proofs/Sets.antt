@@ -32,10 +32,6 @@ empty q = ap (λ n. eqb (n % 2) 1) (zero-div (2 ^ q))
 pub out_of_width : (width s q : ℕ) → s < 2 ^ width → width ≤ q → has s q ≡ false
 out_of_width width s q h le = ap (λ n. eqb (n % 2) 1) (div-eq_of_lt (lt_of_lt_of_le h (pow_mono le)))
 
-pub member_below : (width s q : ℕ) → s < 2 ^ width → has s q ≡ true → q < width
-member_below width s q h m =
-    elim (cases_lt q width) [ inl below ↦ below | inr above ↦ absurd (both_ways (has s q) (out_of_width width s q h above) m) ]
-
 pub out_of_word : (s q : ℕ) → s < 2 ^ 64 → 64 ≤ q → has s q ≡ false
 out_of_word s q = out_of_width 64 s q
 
@@ -110,12 +106,6 @@ has_power (suc k) zero =
 has_power (suc k) (suc q) =
     has_suc (2 ^ suc k) q ∙ ap (λ n. has (n / 2) q) (pow-suc 2 k) ∙ ap (λ n. has n q) (mul-div_cancel (2 ^ k) (zero-lt-suc 1))
     ∙ has_power k q ∙ sym (eqb-suc-suc q k)
-
--- A power of two that is greater than the set, added to it, adds its exponent.
-pub has_power_plus : (k s q : ℕ) → s < 2 ^ k → has (2 ^ k + s) q ≡ (eqb q k || has s q)
-has_power_plus k s q h =
-    ap (λ n. has (n + s) q) (sym (one-mul (2 ^ k))) ∙ ap (λ n. has n q) (sym (or_shifted 1 k s h))
-    ∙ ap (λ n. has (bit_or n s) q) (one-mul (2 ^ k)) ∙ has_or (2 ^ k) s q ∙ ap (λ t. t || has s q) (has_power k q)
 
 -- Or with a power of two adds its exponent, keeps the rest and makes the number greater where the
 -- exponent was no member.
@@ -220,12 +210,3 @@ lowest_below zero s h some = absurd (some (lt-one h))
 lowest_below (suc width) s h some =
     under_below width (s % 2) (count_trailing_zeros width (s / 2)) (λ even.
     lowest_below width (s / 2) (shr_lt width 1 (rw add-one h)) (λ e. some (omega (arith, e, even, div-add-mod' s 2))))
-
--- A set that is not 0 has a member, and a set with none is 0.
-pub some_member : (s : ℕ) → s < 2 ^ 64 → (s ≡ 0 → ⊥) → (q : ℕ) × (q < 64) × (has s q ≡ true)
-some_member s h some =
-    let below = lowest_below 64 s h some in
-    (count_trailing_zeros 64 s, below, lowest_member 64 s below)
-
-pub no_member : (s : ℕ) → s < 2 ^ 64 → ((q : ℕ) → q < 64 → has s q ≡ false) → s ≡ 0
-no_member s h none = same_set s 0 h (pow_pos 64) (λ q below. none q below ∙ sym (empty q))

@@ -1,5 +1,6 @@
 // Sets of the numbers from 0 to 63, each held in one word. A place from 64 on lies in no set:
 // it is never found, and adding or removing it changes nothing.
+// Kept: a set is a plain word, since the states of engines are words of 64 bits.
 
 #![tactic(auto)]
 

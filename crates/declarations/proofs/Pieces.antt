@@ -1,5 +1,6 @@
 -- The item at a place.
-use Rattle.std.proofs.Common.{◌≡◌, ℕ, ◌-◌, ◌<◌, ◌≤◌, true, false, List, [], ◌∷◌, length, drop, Some, None, sym, ap, ◌∙◌, arith, length-drop}
+use Rattle.std.proofs.Common.{◌≡◌, ℕ, ◌-◌, ◌<◌, ◌≤◌, true, false, List, [], ◌∷◌, length, drop, Some, None, Option, sym, ap, ◌∙◌, subst, arith, length-drop}
+use Rattle.std.specs.Option.{MatchOption}
 use Rattle.std.proofs.lemmas.List.{drop_all}
 use Rattle.std.proofs.lemmas.Bool.{false≢true}
 use Rattle.scan.specs.Bytes.{is_blank, first_is, skip}
@@ -10,6 +11,7 @@ use Rattle.declarations.specs.Answers.{DeclaredAt, PieceAt}
 use Rattle.declarations.specs.Grammar.{State, moved}
 use Rattle.declarations.specs.Readers.{read_declaration, declared_at, commented_or, item}
 use Rattle.declarations.specs.declared.declared.Declared.{Declared}
+use Rattle.declarations.specs.declared.declared.Piece.{Piece}
 use Rattle.declarations.specs.declared.declared.Piece.TheVariants as piece
 use Rattle.scan.proofs.Ends.{end_got, end_bad}
 use Rattle.scan.proofs.Agreements.{skip_some, comment_shortens}
@@ -80,3 +82,7 @@ module _ (text : List ℕ) (names : List Name) (at : ℕ) where
     pub piece_unread : EndOf text at (read_comment (drop at text)) None → DeclaredAt text names at None → PieceAt text names at piece.Unread
     unfolding declared_at
     piece_unread h none s = no_comment s h ∙ ap (declared_at s (drop at text)) none
+
+    pub piece_told : (told : Option Declared) (p : Piece) → EndOf text at (read_comment (drop at text)) None → DeclaredAt text names at told → MatchOption told (p ≡ piece.Unread) (λ it. p ≡ piece.Declaration it) → PieceAt text names at p
+    piece_told None p h none is = subst (PieceAt text names at) (sym is) (piece_unread h none)
+    piece_told (Some it) p h there is = subst (PieceAt text names at) (sym is) (piece_declaration it h there)

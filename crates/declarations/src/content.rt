@@ -15,13 +15,10 @@ use super::nesting::group;
 use super::source::Source;
 use engine::ContentAtom;
 use models::Node;
-use scan::{Entry, Read, byte_is, skip_blanks, word_end};
+use scan::{Entry, MOST_NAMES, Read, byte_is, skip_blanks, word_end};
 
 // Brackets nest at most so deep.
 const DEEPEST: u8 = 16;
-
-// So many entries give numbers to their names.
-const MOST_NAMES: usize = 63;
 
 // How many names have numbers.
 fn count(entries: &[Entry]) -> u8

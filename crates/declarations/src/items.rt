@@ -19,8 +19,5 @@ pub fn item_at(text: &[u8], at: usize, entries: &[Entry]) -> Piece
     if let Some(end) = comment_end(text, at) {
         return Piece::Comment(end);
     }
-    match declaration_at(text, at, entries) {
-        Some(told) => Piece::Declaration(told),
-        None => Piece::Unread,
-    }
+    declaration_at(text, at, entries).map_or(Piece::Unread, |told| Piece::Declaration(told))
 }

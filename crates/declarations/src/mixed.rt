@@ -81,6 +81,7 @@ pub fn mixed(source: Source<'_>, word: usize, model: &mut ModelWriter<'_>) -> Op
         set: 0,
         distinct: true,
     };
+    // Kept: each member's place is known only when the one before was read, so there is no list to go over.
     loop {
         let here = skip_blanks(text, end);
         if byte_is(text, here, b')') {

@@ -14,6 +14,7 @@ use writing::Writer;
 pub type ModelWriter<'n> = Writer<'n, ContentAtom, bool>;
 
 // Writes a name by its number. One without a number stands as element 0, which is none.
+// Kept: an atom's element is a byte of the engine interface, in which no element is 0.
 pub fn put_name(model: &mut ModelWriter<'_>, number: Option<u8>)
     ensures same_table { model.new.nodes.ghost_name ≡ model.old.nodes.ghost_name }
     ensures wrote { (n : ℕ) → NumberIs n number → Wrote model.old (OfAtom (OfElement n) ∷ []) model.new }

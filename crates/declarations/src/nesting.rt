@@ -26,6 +26,7 @@ pub fn group(source: Source<'_>, at: usize, left: u8, model: &mut ModelWriter<'_
     let start = skip_blanks(text, at + 1);
     let mut end = particle(source, start, left - 1, model)?;
     let joint = joint_at(text, end);
+    // Kept: each member's place is known only when the one before was read, so there is no list to go over.
     loop {
         let here = skip_blanks(text, end);
         if byte_is(text, here, b')') {

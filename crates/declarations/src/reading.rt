@@ -16,6 +16,7 @@ use writing::Writer;
 
 // What is told of a declaration besides what is written: where its name stands, and whether no name stands twice in
 // its mixed model.
+// Kept: `distinct` is a fact that is asked by itself; no value hangs on it.
 #[derive(Clone, Copy)]
 struct Head {
     name: Span,
@@ -81,6 +82,7 @@ pub fn declaration_at(text: &[u8], at: usize, entries: &[Entry]) -> Option<Decla
 
 // Writes the nodes of the declaration's model into the table from `used` on; what has no place is left out, and where
 // no declaration stands nothing is written.
+// Kept: the caller lends the table again for each model, and counts on by what is told.
 pub fn write_model(
     text: &[u8],
     at: usize,

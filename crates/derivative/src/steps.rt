@@ -11,6 +11,7 @@ use engine::{Alphabet, Engine};
 use models::{Tables, readers};
 
 // The state at the beginning: no atom was read yet.
+// Kept: a state is a word of 64 bits by the engine interface.
 pub const BEGINNING: u64 = 1;
 
 // An engine that reads a node table. Its states are sets of the atoms that may have been read last, 0

@@ -18,6 +18,7 @@ use scan::Entry;
 // A text of declarations, every question about which got a yes, and the tables of what it reads as: the nodes
 // of its models, where each model's nodes stand, and where each declaration and its name stand. Places that are
 // not used are zero. The tables are held for reading only.
+// Kept: the lent tables are held whole, since their places past the count are promised to be zero.
 #[derive(Drop)]
 pub struct Draft<'t, 'n, 'm, 'e> {
     text: &'t [u8],

@@ -29,6 +29,7 @@ fn note_one(entries: &mut [Entry], room: usize, noted: Noted, entry: Entry) -> N
 pub fn note(text: &[u8], entries: &mut [Entry], room: usize) -> Result<Noted, usize>
     ensures { Notes text.now room entries.old entries.new result }
 {
+    // Kept: an item's place is known only when the item before it was read, so there is no list to go over.
     let mut at = 0;
     let mut noted = Noted {
         count: 0,

@@ -17,6 +17,7 @@ pub fn write_models(
     ensures { WritesModels text.now entries.now nodes.old nodes.new models.old models.new }
 {
     let mut used: usize = 0;
+    // Kept: after a zip of iter_mut() no proof knows what the places hold.
     for (index, entry) in entries.iter().enumerate() {
         let Some(told) = declaration_at(text, entry.place, entries) else {
             return;

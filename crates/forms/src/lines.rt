@@ -55,6 +55,7 @@ pub fn form_at(text: &[u8], at: usize) -> Option<Lined>
 
 // Writes the nodes of the form's expression into the table from `used` on; what has no place is left out, and where no
 // form stands nothing is written.
+// Kept: the caller lends the table again for each form, and counts on by what is told.
 pub fn write_form(text: &[u8], at: usize, nodes: &mut [Node<ByteRange>], used: usize)
     ensures { nodes.new ≡ with_form (read_line (drop at text.now)) nodes.old used }
 {

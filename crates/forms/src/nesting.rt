@@ -89,6 +89,7 @@ fn more_members(
     ensures same_table { writer.new.nodes.ghost_name ≡ writer.old.nodes.ghost_name }
     ensures read { (start : ℕ) (e : Exp OfRange) (rest : List ℕ) (before : OfWriter OfRange (Unit {0})) → PartIs text.now start e rest before at writer.old → ExpressionAt text.now start (read_more left (joint_of joint) e rest) before result writer.new }
 {
+    // Kept: each member's place is known only when the one before was read, so there is no list to go over.
     let mut here = at;
     while byte_is(text, here, b' ') {
         here = expression(text, here + 1, left, writer)?;

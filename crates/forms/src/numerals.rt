@@ -35,13 +35,11 @@ fn is_plain(digits: &[u8]) -> bool
 fn value_of(digits: &[u8]) -> Option<u8>
     ensures { ValueIs digits.now result }
 {
-    let mut value: u8 = 0;
-    for digit in digits {
-        value = value
+    digits.iter().try_fold(0u8, |value, digit| {
+        value
             .checked_mul(10)?
-            .checked_add(digit.saturating_sub(b'0'))?;
-    }
-    Some(value)
+            .checked_add(digit.saturating_sub(b'0'))
+    })
 }
 
 // The byte that stands at the place in base ten.

@@ -127,15 +127,6 @@ first_grouped (got v rest) g h = refl
 pub first_regrouped : (text : List ℕ) (at : ℕ) (f g h : Front Value) (r : Option (Read Kind)) → ItemOf text at (first_of (first_of f g) h) r → ItemOf text at (first_of f (first_of g h)) r
 first_regrouped text at f g h r k = subst (λ x. ItemOf text at x r) (first_grouped f g h) k
 
--- Whether a word stands there.
-pub there_some : {A : Type 0} (text : List ℕ) (at e : ℕ) (f : Front A) → EndOf text at f (Some e) → true ≡ there f
-there_some text at e bad h = absurd h
-there_some text at e (got v rest) h = refl
-
-pub there_none : {A : Type 0} (text : List ℕ) (at : ℕ) (f : Front A) → EndOf text at f None → false ≡ there f
-there_none text at bad h = refl
-there_none text at (got v rest) h = absurd h
-
 -- A reading ends no earlier than it begins.
 pub end_forward : {A : Type 0} (text : List ℕ) (at e : ℕ) (f : Front A) → EndOf text at f (Some e) → at ≤ e
 end_forward text at e bad h = absurd h

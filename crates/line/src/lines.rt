@@ -18,6 +18,8 @@ pub enum AgreementLayer {
 // A pass with its events and the document's length in bytes; a refused document with the refusal's number, the
 // events that were accepted before it, the byte where it came and a name that goes with it, or none; a refused
 // text of an agreement, with the byte where it was refused.
+// Kept: a refusal stands here by its number; several crates have refusals, and this one stands on none of them.
+// Kept: a name has a byte at least, so an empty one is none; an Option would tell two kinds of none.
 #[derive(Clone, Copy, PartialEq, Eq, Debug)]
 pub enum Line<'a> {
     Pass {

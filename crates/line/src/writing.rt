@@ -30,6 +30,7 @@ impl Line<'_> {
         Some(writer.at)
     }
 
+    // Kept: no Display, since a name is bytes that need be no str.
     fn put(&self, writer: &mut Writer) -> Option<()>
         ensures same_buffer { writer.new.out.ghost_name ≡ writer.old.out.ghost_name }
         ensures written { writer.old.at ≤ length writer.old.out.now → PutPieces (pieces self.now) writer.old.out.now writer.old.at writer.new.out.now (reached writer.new result) }
@@ -90,6 +91,7 @@ fn label_of(name: &[u8]) -> &'static [u8]
 }
 
 impl Layer {
+    // Kept: a word is written as bytes, which Display would not hand out.
     fn word(self) -> &'static [u8]
         ensures { result.now ≡ layer_word self }
     {
@@ -102,6 +104,7 @@ impl Layer {
 }
 
 impl AgreementLayer {
+    // Kept: a word is written as bytes, which Display would not hand out.
     fn word(self) -> &'static [u8]
         ensures { result.now ≡ agreement_layer_word self }
     {

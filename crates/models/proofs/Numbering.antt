@@ -103,16 +103,6 @@ coded_leaves (star e) = one_leaves e node.Star refl (coded_leaves e)
 coded_leaves (plus e) = one_leaves e node.Plus refl (coded_leaves e)
 coded_leaves (option e) = one_leaves e node.Opt refl (coded_leaves e)
 
-pub no_atom : {A : Type 0} (x : Node A) → ((a : A) → x ≡ node.Atom a → ⊥) → atom_of x ≡ []
-no_atom node.Unused h = refl
-no_atom node.Empty h = refl
-no_atom (node.Atom a) h = absurd (h a refl)
-no_atom node.Seq h = refl
-no_atom node.Alt h = refl
-no_atom node.Star h = refl
-no_atom node.Plus h = refl
-no_atom node.Opt h = refl
-
 -- The atoms among the nodes, one at a time.
 pub atoms_found : {A : Type 0} (nodes : List (Node A)) → filter_map atom_in nodes ≡ atoms_of nodes
 atoms_found [] = refl

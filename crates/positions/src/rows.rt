@@ -8,18 +8,20 @@ use bits::{only, when};
 use derivative::known;
 use models::{Node, Tables};
 
-// The row at a place: what may be read right after atom `place % 64` of number `place / 64 + 1`.
+// The row at a place: what may be read right after atom `place % 64` of number `place / 64 + 1`, and 0 where a word may
+// end there.
 fn row_at<Atom: Copy>(tables: Tables<'_, '_, Atom>, place: usize) -> u64
     ensures { RowAt tables.entry.nodes.now tables.entry.models.now place result }
 {
     let from = only((place % 64) as u8);
     known(tables.nodes_of(place / 64 + 1), from, u64::MAX).map_or(
         0,
-        |derived| derived.reached(from) | when(derived.may_end(from), 1),
+        |derived| derived.reached(from) | when(derived.may_end(from), only(0)),
     )
 }
 
 // The atom with a number, or an unused node where there is none.
+// Kept: what is written into the table is a node, and its zero is the unused one.
 pub fn atom_of<Atom: Copy>(nodes: &[Node<Atom>], number: usize) -> Node<Atom>
     ensures { AtomAt nodes.now number result }
 {

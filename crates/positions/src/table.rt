@@ -14,6 +14,7 @@ pub use filling::{BlankTable, TooFewPlaces};
 use models::{Node, Tables};
 
 // The follow sets and the atoms of every number with a model, 64 places to a number.
+// Kept: rows and atoms are lent apart, in fixed memory; a step walks the rows alone first.
 #[derive(Drop)]
 pub struct FollowTable<'n, 'm, 'r, 'a, L: Alphabet> {
     tables: Tables<'n, 'm, L::Atom>,

@@ -65,9 +65,6 @@ unfolding skip
 skip_none [] e = refl
 skip_none (b ∷ t) e = chosen_false (is_blank b) (skip t) (b ∷ t) e
 
-pub skip_twice : (t : List ℕ) → skip (skip t) ≡ skip t
-skip_twice t = skip_none (skip t) (skip_bare t)
-
 pub skip_some : (t : List ℕ) → first_is is_blank t ≡ true → length (skip t) < length t
 unfolding skip
 skip_some [] e = absurd (both_ways false refl e)
@@ -95,10 +92,6 @@ word_agrees cs = record { sound = word_sound cs; complete = λ t v rest e. ap (w
 -- A reading leaves a shorter text.
 abbrev pub Shortens : {A : Type 0} → (List ℕ → Front A) → Type 0
 Shortens {A} read = (t : List ℕ) (v : A) (rest : List ℕ) → read t ≡ got v rest → length rest < length t
-
-pub word_shortens : (c : ℕ) (cs : List ℕ) → Shortens (word (c ∷ cs))
-word_shortens c cs t v rest e =
-    omega (arith, ap length (word_sound (c ∷ cs) t v rest e), length-append (c ∷ cs) rest)
 
 -- Names: as many bytes are taken as may stand in a name.
 initial_in_name : (b : ℕ) → is_initial b ≡ true → is_name_byte b ≡ true

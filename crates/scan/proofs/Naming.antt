@@ -1,5 +1,6 @@
 -- The end of a name.
 use Rattle.std.proofs.Common.{◌≡◌, ℕ, ◌+◌, ◌-◌, ◌<◌, ◌≤◌, Bool, true, false, ◌&&◌, leb, List, length, take, drop, Some, None, Option, sym, ap, ◌∙◌, subst, ap₂, inl, inr, arith, length-drop, drop-drop}
+use Rattle.std.specs.Bool.{then_some}
 use Rattle.std.specs.List.{prefix_len}
 use Rattle.std.proofs.lemmas.List.Sums.{prefix_len-drop_yes, prefix_len-drop_no, prefix_len-drop_all, prefix_len-le-length}
 use Rattle.std.proofs.lemmas.Bool.{cases_lt, le-leb, lt-leb, and_from, and_left, and_right}
@@ -13,13 +14,6 @@ pub leading_one : (test : ℕ → Bool) (t : List ℕ) (i : ℕ) → first_is te
 leading_one test t i holds =
     let lt : i < length t = first_there test t i holds in
     prefix_len-drop_yes test t i 0 lt (sym (first_inside test t i 0 lt) ∙ holds)
-
-pub leading_none : (test : ℕ → Bool) (t : List ℕ) (i : ℕ) → first_is test (drop i t) ≡ false → prefix_len test (drop i t) ≡ 0
-leading_none test t i fails =
-    elim (cases_lt i (length t)) [
-      | inl lt ↦ prefix_len-drop_no test t i 0 lt (sym (first_inside test t i 0 lt) ∙ fails)
-      | inr le ↦ prefix_len-drop_all test t i le
-    ]
 
 -- The three ways in which the reading of a name ends.
 read_some : (t : List ℕ) → first_is is_initial t ≡ true → prefix_len is_name_byte t ≤ 32 → read_name t ≡ got (take (prefix_len is_name_byte t) t) (drop (prefix_len is_name_byte t) t)
@@ -55,9 +49,6 @@ refused text at e = record {
 pub not_begun : (text : List ℕ) (at : ℕ) → first_is is_initial (drop at text) ≡ false → Named text at None
 not_begun text at fails = refused text at (read_none (drop at text) fails)
 
-pub too_long : (text : List ℕ) (at end : ℕ) → first_is is_initial (drop at text) ≡ true → end ≡ at + prefix_len is_name_byte (drop at text) → 32 < end - at → Named text at None
-too_long text at end holds is long = refused text at (read_long (drop at text) holds (omega arith))
-
 pub named : (text : List ℕ) (at end : ℕ) → first_is is_initial (drop at text) ≡ true → end ≡ at + prefix_len is_name_byte (drop at text) → end - at ≤ 32 → Named text at (Some end)
 named text at end holds is short =
     let n = prefix_len is_name_byte (drop at text) in
@@ -71,3 +62,11 @@ named text at end holds is short =
       answer = subst (λ f. EndOf text at f (Some end)) (sym read) (record { forward = omega arith; inside = omega arith; behind = behind });
       name = read ∙ ap₂ (λ k rest. got (take k (drop at text)) rest) (sym width) (sym behind);
     }
+
+-- An end that is answered where the name is not too long.
+pub named_if : (text : List ℕ) (at end : ℕ) → first_is is_initial (drop at text) ≡ true → end ≡ at + prefix_len is_name_byte (drop at text) → Named text at (then_some (leb (end - at) 32) end)
+named_if text at end holds is =
+    elim (cases_lt 32 (end - at)) [
+      | inl long ↦ subst (λ b. Named text at (then_some b end)) (sym (lt-leb _ _ long)) (refused text at (read_long (drop at text) holds (omega arith)))
+      | inr short ↦ subst (λ b. Named text at (then_some b end)) (sym (le-leb _ _ short)) (named text at end holds is short)
+    ]

@@ -23,22 +23,6 @@ take_same n m l (inr (p, q)) = take_all n l p ∙ sym (take_all m l q)
 take_zero : (n : ℕ) (l : List ℕ) → n ≡ 0 → take n l ≡ []
 take_zero n l e = ap (λ k. take k l) e
 
-pub clamped : (text : List ℕ) (start end s e : ℕ) → e ≡ min end (length text) → s ≡ min start e → take (e - s) (drop s text) ≡ take (end - start) (drop start text)
-clamped text start end s e is-e is-s =
-    elim (cases_lt start e) [
-      | inl lt ↦ let same_start : s ≡ start = omega arith in
-          ap (λ k. take (e - k) (drop k text)) same_start
-          ∙ take_same (e - start) (end - start) (drop start text) (elim (cases_lt (length text) end) [
-            | inl past ↦ inr ((let h : length (drop start text) ≡ length text - start = length-drop start text in omega arith), (let h : length (drop start text) ≡ length text - start = length-drop start text in omega arith))
-            | inr within ↦ inl (omega arith)
-          ])
-      | inr le ↦ take_zero (e - s) (drop s text) (omega arith)
-          ∙ sym (elim (cases_lt start end) [
-            | inl lt ↦ ap (take (end - start)) (drop_all start text (omega arith)) ∙ take-nil (end - start)
-            | inr ge ↦ take_zero (end - start) (drop start text) (omega arith)
-          ])
-    ]
-
 module _ (text : List ℕ) (name : Name) where
   -- Whether the entry has the name.
   abbrev pub named : Entry → Bool

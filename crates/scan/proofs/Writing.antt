@@ -15,10 +15,6 @@ pub puts_one : {A : Type 0} (t : List A) (at : ℕ) (x : A) → puts t at (x ∷
 unfolding puts
 puts_one t at x = refl
 
--- One more behind a list that was written.
-pub puts_push : {A : Type 0} (t : List A) (at : ℕ) (xs : List A) (x : A) → puts t at (xs ++ (x ∷ [])) ≡ set (puts t at xs) (at + length xs) x
-puts_push t at xs x = puts_append t at xs (x ∷ []) ∙ puts_one (puts t at xs) (at + length xs) x
-
 -- Past the end nothing is written.
 pub puts_past : {A : Type 0} (t : List A) (at : ℕ) (xs : List A) → length t ≤ at → puts t at xs ≡ t
 unfolding puts

@@ -19,7 +19,7 @@ pub use bytes::{byte_is, is_blank, is_initial, is_name_byte, is_text_byte, peek,
 pub use comments::comment_end;
 pub use entry::Entry;
 pub use names::{MOST_NAME_BYTES, name_end};
-pub use numbers::{number_of, same_name};
+pub use numbers::{MOST_NAMES, number_of, same_name};
 pub use read::Read;
 pub use span::Span;
 pub use tables::put;

@@ -20,11 +20,7 @@ pub fn name_end(text: &[u8], at: usize) -> Option<usize>
         return None;
     }
     let end = name_run_end(text, at);
-    if end - at <= MOST_NAME_BYTES {
-        Some(end)
-    } else {
-        None
-    }
+    (end - at <= MOST_NAME_BYTES).then_some(end)
 }
 
 // The place behind all the name characters that stand at the place.

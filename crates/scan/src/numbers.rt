@@ -6,7 +6,7 @@ ghost use Rattle.scan.specs.Lists.{same, number_of, NumberIs, name_at, names_at}
 use super::entry::Entry;
 
 // A table counts at most so many names.
-const MOST_NAMES: usize = 63;
+pub const MOST_NAMES: usize = 63;
 
 // Whether two names are the same.
 pub fn same_name(a: &[u8], b: &[u8]) -> bool

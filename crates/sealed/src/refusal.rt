@@ -13,6 +13,7 @@ const TREES: u8 = 20;
 
 impl Unsealed {
     // The number of the question that got a no. That an element has a model has no number of its own.
+    // Kept: a refusal has a number; Option::from(refusal) would not say what the byte is.
     pub fn number(self) -> Option<u8>
         ensures { result ≡ number self }
     {

@@ -15,11 +15,7 @@ use models::{Node, readers};
 fn is_text(atom: ContentAtom) -> bool
     ensures { Decides result (TextOnly atom) }
 {
-    match atom {
-        ContentAtom::Text => true,
-        ContentAtom::Element(_) => false,
-        ContentAtom::All(last) => last == 0,
-    }
+    matches!(atom, ContentAtom::Text | ContentAtom::All(0))
 }
 
 // Whether each atom stands for text alone.
@@ -50,6 +46,7 @@ fn text_after(nodes: &[Node<ContentAtom>], last: u8) -> Option<u8>
 pub fn takes_all_text(nodes: &[Node<ContentAtom>]) -> bool
     ensures { (AmbiguousIn nodes.now → ⊥) → Decides result (AllTexts nodes.now) }
 {
+    // Kept: the set grows until an atom comes again; no list is gone through.
     let mut seen = 0;
     let mut last = 0;
     while !contains(seen, last) {

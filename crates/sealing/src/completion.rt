@@ -76,6 +76,7 @@ pub fn completed(tables: Tables<'_, '_, ContentAtom>) -> u64
     requires { length tables.models.now ≤ 63 }
     ensures { (n : ℕ) → Decides (has result n) (HasTree tables.entry.nodes.now tables.entry.models.now n) }
 {
+    // Kept: the set grows until nothing is lacking; no list is gone through.
     let mut set = 0;
     while let Some(number) = lacking(tables, set) {
         set = with(set, number);

@@ -37,6 +37,7 @@ fn forks_somewhere(nodes: &[Node<ContentAtom>], letter: Letter) -> bool
 
 // A letter that the atom stands for. Where two atoms have a letter in common, they have the sample of
 // one of them in common, so that only samples need to be tried.
+// Kept: a sample is one of many letters that the atom stands for, so no From.
 fn sample(atom: ContentAtom) -> Letter
     ensures { result ≡ content_sample atom }
 {

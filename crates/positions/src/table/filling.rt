@@ -12,6 +12,7 @@ use models::{Node, Tables};
 use std::mem::replace;
 
 // The lent places of a follow table that is still to be made.
+// Kept: rows and atoms are lent apart, in fixed memory; a step walks the rows alone first.
 #[derive(Drop)]
 pub struct BlankTable<'r, 'a, L: Alphabet> {
     pub rows: &'r mut [u64],

@@ -9,6 +9,7 @@ const PLACES: u8 = 22;
 
 impl TooFewPlaces {
     // The number of the question that got a no.
+    // Kept: a refusal has a number; u8::from(refusal) would not say what the byte is.
     pub fn number(self) -> u8
         ensures { result ≡ number self }
     {

@@ -1,6 +1,7 @@
-use Rattle.std.proofs.Common.{sym, arith}
+use Rattle.std.proofs.Common.{sym, arith, rules}
+use Rattle.models.proofs.Options.{match_then}
 use Rattle.declarations.specs.Answers.{numbered_names}
-use Rattle.declarations.proofs.Pieces.{piece_end, piece_blanks, piece_comment, piece_declaration, piece_unread}
+use Rattle.declarations.proofs.Pieces.{piece_end, piece_blanks, piece_comment, piece_told}
 use Rattle.declarations.proofs.items.item_at.Goals as goal
 
 pub returns-then-at-text : goal.returns-then-at-text
@@ -18,12 +19,8 @@ returns-in-Some c =
     let text = c.args.text.now in
     piece_comment text (numbered_names text c.args.entries.now) c.args.at c.if-at-text.false (sym c.if-blank_at.ensures) c.in-Some.end c.in-Some.ensures
 
-pub returns-in-Some-declaration_at : goal.returns-in-Some-declaration_at
-returns-in-Some-declaration_at c =
+pub returns : goal.returns
+returns c =
     let text = c.args.text.now in
-    piece_declaration text (numbered_names text c.args.entries.now) c.args.at c.if-at-text.false (sym c.if-blank_at.ensures) c.in-Some-declaration_at.told c.in_default.ensures c.in-Some-declaration_at.ensures
-
-pub returns-in-None : goal.returns-in-None
-returns-in-None c =
-    let text = c.args.text.now in
-    piece_unread text (numbered_names text c.args.entries.now) c.args.at c.if-at-text.false (sym c.if-blank_at.ensures) c.in_default.ensures c.in-None.ensures
+    piece_told text (numbered_names text c.args.entries.now) c.args.at c.if-at-text.false (sym c.if-blank_at.ensures) c.declaration_at.result c.map_or.result c.in_default.ensures c.declaration_at.ensures
+    (match_then _ c.declaration_at.result c.map_or.ensures (λ told h. search rules))
