@@ -9,6 +9,7 @@ pub fn advance<E: Engine>(engine: &E, number: u8, state: u64, word: &[E::Letter]
     ensures { Advanced (E.Engine.rest engine.now number) state word.now result }
 {
     let mut reached = state;
+    // Kept: with try_fold the goal `returns` stayed open: an engine's step is told by its languages, by no function to fold.
     for letter in word {
         reached = engine.step(number, reached, *letter)?;
     }

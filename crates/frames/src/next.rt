@@ -37,6 +37,7 @@ impl<'e, C: Content, V: Engine<Letter = u8>> Engines<'e, C, V> {
         ensures starts { (n : ℕ) → 1 ≤ n → n ≤ 63 → Decides (has result n) (ChildGoesOn (meaning C.Engine V.Engine self.now) frame n) }
     {
         let mut set = 0;
+        // Kept: a fold left the goals of both clauses open: what an engine answers is told by no function to fold.
         for number in 1..64 {
             let next = goes_on(
                 self.content,
@@ -61,6 +62,7 @@ fn goes_on<E: Engine>(engine: &E, number: u8, state: u64, letter: E::Letter) -> 
 fn some_byte<V: Engine<Letter = u8>>(value: &V, number: u8, state: u64) -> bool
     ensures { Decides result (SomeByte (V.Engine.rest value.now number state)) }
 {
+    // Kept: over 0..=u8::MAX the goal `returns` stayed open; the lemma on what a range yields is of one without its end.
     (0..256u16).any(|byte| goes_on(value, number, state, byte as u8))
 }
 
@@ -69,5 +71,6 @@ fn with_if(wanted: bool, set: u64, number: u8) -> u64
     ensures here { number < 64 → has set number ≡ false → has result number ≡ wanted }
     ensures others { (q : ℕ) → (q ≢ number) → has result q ≡ has set q }
 {
+    // Kept: with `set | when(wanted, only(number))` the goals of both clauses stayed open.
     if wanted { with(set, number) } else { set }
 }
