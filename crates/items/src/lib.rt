@@ -38,5 +38,4 @@ pub fn item_at(text: &[u8], at: usize) -> Option<Item>
 pub fn items_are_read()
     ensures theorem { ItemsAreRead }
     ensures worked { Worked }
-{
-}
+{}
