@@ -14,7 +14,7 @@ pub fn union_of(rows: &[u64], base: usize, set: u64) -> u64
     requires { base + 64 ≤ length rows.now }
     ensures { Union rows.now base set result }
 {
-    // Kept: a fold over the members left `returns` open, since its closure's turns had to be told of the rows again.
+    // Kept: a fold over the members left `returns` open: what is in a member's row is in it, and nothing else is.
     let mut union = 0;
     for number in Members::of(set) {
         union |= rows[base + number as usize];
