@@ -78,8 +78,16 @@ def kept(lines, at):
         if "// Kept:" in lines[here]:
             return True
         if here < at and re.match(r"\}", lines[here]):
-            return False
+            break
         here -= 1
+    # A function's own place may have its reason in the body.
+    if re.match(r" *(pub(\(\w+\))? )?fn ", lines[at]):
+        indent = re.match(r" *", lines[at])[0]
+        for line in lines[at:]:
+            if "// Kept:" in line:
+                return True
+            if line == indent + "}":
+                return False
     return False
 
 
