@@ -1,9 +1,9 @@
-use Rattle.std.proofs.Common.{◌-◌, ◌<◌, ◌∷◌, [], drop, sym, refl, ◌∙◌, subst, arith, lit<}
+use Rattle.std.proofs.Common.{◌-◌, ◌<◌, ◌∷◌, [], drop, sym, ◌∙◌, subst, arith, lit<}
 use Rattle.writing.specs.Wrote.{Wrote}
 use Rattle.forms.specs.Inner.{joint_of, mark_of, read_more}
 use Rattle.forms.specs.Readers.{read_expression, read_members, read_marked}
 use Rattle.forms.specs.declared.openings.Opening.TheVariants.{Range, Members, Marked}
-use Rattle.forms.proofs.Lists.{going_start, list_over, list_stuck, list_no_member, list_member, no_first, one_alone, no_second, two_members, no_inside, not_shut, mark_there, none_left, some_left, reads_opened, range_there}
+use Rattle.forms.proofs.Lists.{list_over, list_stuck, list_no_member, list_member, no_first, one_alone, no_second, two_members, no_inside, not_shut, mark_there, none_left, some_left, reads_opened, range_there}
 use Rattle.forms.proofs.Parts.{expression_from, expression_none}
 use Rattle.forms.proofs.nesting.+expression_marked_members_more_members.Goals as goal
 
@@ -94,12 +94,6 @@ members-returns-clause-read t c =
     let two = two_members text c.args.at c.args.left c.args.joint c.args.writer.now c.in_ok-first.first c.expression.new.writer c.in_ok-first.ensures.read c.in_ok-space.space (c.in_ok-space.ensures.answer one) c.in_ok-second.second c.expression-2.new.writer c.put.new.self c.in_ok-second.ensures.read wrote in
     expression_from text c.args.at c.args.at c.args.writer.now (read_members (read_expression c.args.left) (joint_of c.args.joint) (drop c.args.at text)) (read_more c.args.left (joint_of c.args.joint) two.both two.rest) c.more_members.result c.more_members.new.writer (omega arith) two.reads
     (c.more_members.ensures.read c.args.at two.both two.rest c.args.writer.now two.is)
-
-pub more_members-loop-joint-init : goal.more_members-loop-joint-init
-more_members-loop-joint-init t c = (
-  λ start e rest before p. going_start c.args.text.now start c.args.left c.args.joint e rest before c.args.at c.args.writer.now p,
-  refl,
-)
 
 pub more_members-returns-in_err-here-clause-read : goal.more_members-returns-in_err-here-clause-read
 more_members-returns-in_err-here-clause-read t c start e rest before p =

@@ -23,6 +23,7 @@ use Rattle.agreement.proofs.Sealing.{all_written, sealed_ok, sealed_not}
 use Rattle.agreement.proofs.sealed_declarations.SealedDeclarations.seal.Goals as goal
 
 -- What is said of the draft's tables is said of the models of its text.
+
 of_text : (P : List (Node ContentAtom) → List Model → Type 0) (t : List ℕ) (nodes : List (Node ContentAtom)) (models : List Model) → nodes ≡ filled Unused (length nodes) (all_code (text_models t)) → models ≡ runs_from 0 (text_models t) → P nodes models → P (all_code (text_models t) ++ replicate (length nodes - length (all_code (text_models t))) Unused) (runs_from 0 (text_models t))
 of_text P t nodes models ns ms h = subst (P _) ms (subst (λ x. P x models) ns h)
 
@@ -43,19 +44,6 @@ returns-in_err-map_err-clause-answer c =
 
 says : (P : Unit {0} → Type 0) (Q : Unsealed → Type 0) {r : Result (Unit {0}) Unsealed} → r ≡ Ok tt → MatchResult r P Q → P tt
 says P Q {r} e h = subst (λ x. MatchResult x P Q) e h
-
-pub invariant_of-self : goal.invariant_of-self
-invariant_of-self c =
-    let filled_in = map_ok _ c.fill.result c.map_err.result c.in_ok-map_err.field-0 c.map_err.ensures.cases c.in_ok-map_err.was in
-    let held = subst (λ r. MatchResult r (λ _. (c.fill.new.self.engine.tables.nodes.now ≡ c.nodes.result.now) × (c.fill.new.self.engine.tables.models.now ≡ c.models.result.now)) (λ _. c.fill.new.self ≡ c.empty-tables.result)) filled_in c.fill.ensures.tables in
-    let P : List (Node ContentAtom) → Type 0 = λ ns. ns ≡ filled Unused (length ns) (all_code (text_models c.text.result.now)) in
-    let t : c.args.draft.now.text.now ≡ c.text.result.now = sym c.text.ensures in
-    let coded : P c.nodes.result.now = subst (λ x. c.nodes.result.now ≡ filled Unused (length c.nodes.result.now) (all_code (text_models x))) t c.nodes.ensures in
-    record {
-      named = subst (λ x. c.entries-entries.result.now ≡ entries_of x (declarations x)) t c.entries-entries.ensures;
-      coded = ∣ subst P (sym held.0) coded ∣₁;
-      placed = ∣ held.1 ∙ c.models.ensures ∙ ap (λ x. runs_from 0 (text_models x)) t ∣₁;
-    }
 
 pub returns : goal.returns
 returns c =
