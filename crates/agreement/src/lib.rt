@@ -1,4 +1,4 @@
-// Sealed declarations: declarations whose text got a yes to every question, and the content engine that they are.
+// Sealed declarations: declarations whose text got a yes to every question, with the content engine of their models.
 
 #![tactic(auto)]
 

@@ -9,4 +9,4 @@ mod tests;
 mod writing;
 
 pub use lines::{AgreementLayer, LONGEST_LINE, LONGEST_NAME, Layer, Line};
-pub use put::{Piece, Writer};
+pub use put::Writer;

@@ -10,7 +10,7 @@ use itoa::Buffer;
 
 // A piece of a text: bytes as they stand, or a number in base ten.
 #[derive(Clone, Copy, PartialEq, Eq, Debug)]
-pub enum Piece<'a> {
+pub(crate) enum Piece<'a> {
     Verbatim(&'a [u8]),
     Decimal(u64),
 }
@@ -33,7 +33,7 @@ impl<'o> Writer<'o> {
     }
 
     // Puts the pieces, one behind another, up to the first that has no room.
-    pub fn put_pieces(&mut self, pieces: &[Piece]) -> Option<()>
+    pub(crate) fn put_pieces(&mut self, pieces: &[Piece]) -> Option<()>
         ensures same_buffer { self.new.out.ghost_name ≡ self.old.out.ghost_name }
         ensures written { self.old.at ≤ length self.old.out.now → PutPieces (map said pieces.now) self.old.out.now self.old.at self.new.out.now (reached self.new result) }
     {
