@@ -21,6 +21,14 @@ abbrev pub ValueEnds : (ℕ → Language ℕ) → Option ℕ → Type 0
 ValueEnds rest None = Unit {0}
 ValueEnds rest (Some s) = rest s []
 
+-- The frame after a letter, where the content states have these rests: its content state has as its rest the
+-- derivative by that letter; there is none where that is empty.
+abbrev pub ReadsContent : (ℕ → ℕ → Language Letter) → Frame → Letter → Option Frame → Type 0
+ReadsContent CR f a None = Empty (residue (CR f.number f.content) (a ∷ []))
+ReadsContent CR f a (Some g) =
+    (g.number ≡ f.number) × (g.value ≡ f.value)
+    × Answers (residue (CR f.number f.content) (a ∷ [])) (CR f.number) (Some g.content)
+
 module _ (m : Meaning) where
   -- The frame of an element that has just started: its states are those of its two languages; there is
   -- none where the content language is empty.
@@ -29,13 +37,9 @@ module _ (m : Meaning) where
   OpensFrame n (Some f) =
       (f.number ≡ n) × Answers (m.contents n) (m.content_rests n) (Some f.content) × Answers (m.values n) (m.value_rests n) f.value
 
-  -- The frame after a letter: its content state has as its rest the derivative by that letter; there is
-  -- none where that is empty.
+  -- The frame after a letter, by what the content engine's states leave.
   abbrev pub ReadsLetter : Frame → Letter → Option Frame → Type 0
-  ReadsLetter f a None = Empty (residue (m.content_rests f.number f.content) (a ∷ []))
-  ReadsLetter f a (Some g) =
-      (g.number ≡ f.number) × (g.value ≡ f.value)
-      × Answers (residue (m.content_rests f.number f.content) (a ∷ [])) (m.content_rests f.number) (Some g.content)
+  ReadsLetter = ReadsContent m.content_rests
 
   -- The frame after a text: one text letter of content, and the bytes of the value.
   abbrev pub ReadsText : Frame → List ℕ → Option Frame → Type 0

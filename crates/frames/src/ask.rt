@@ -2,19 +2,35 @@
 
 ghost use Rattle.engine.specs.Languages.{Decides};
 ghost use Rattle.engine.specs.Trees.{Declared};
-ghost use Rattle.frames.specs.Asks.{OpensFrame, ReadsLetter, ReadsText, Completes};
+ghost use Rattle.frames.specs.Asks.{OpensFrame, ReadsContent, ReadsLetter, ReadsText, Completes};
 ghost use Rattle.frames.specs.Meanings.{meaning};
 
 use super::engines::Engines;
 use super::frame::Frame;
 use engine::{Content, Engine, Letter, advance};
 
+// Whether the number has a content language. One content engine is enough to ask.
+pub fn is_declared<C: Content>(content: &C, number: u8) -> bool
+    ensures { Decides result (Declared (C.Engine.language content.now) number) }
+{
+    content.open(number).is_some()
+}
+
+// The frame after one letter more of content, or none where no child may come next as that letter. One content
+// engine is enough to ask.
+pub fn read_letter<C: Content>(content: &C, frame: Frame, letter: Letter) -> Option<Frame>
+    ensures { ReadsContent (C.Engine.rest content.now) frame letter result }
+{
+    let content = content.step(frame.number, frame.content, letter)?;
+    Some(Frame { content, ..frame })
+}
+
 impl<'e, C: Content, V: Engine<Letter = u8>> Engines<'e, C, V> {
     // Whether the number has a content language.
     pub fn is_declared(&self, number: u8) -> bool
         ensures { Decides result (Declared (meaning C.Engine V.Engine self.now).contents number) }
     {
-        self.content.open(number).is_some()
+        is_declared(self.content, number)
     }
 
     // The frame of an element that has just started, or none where its number is not declared.
@@ -34,8 +50,7 @@ impl<'e, C: Content, V: Engine<Letter = u8>> Engines<'e, C, V> {
     pub fn read_letter(&self, frame: Frame, letter: Letter) -> Option<Frame>
         ensures { ReadsLetter (meaning C.Engine V.Engine self.now) frame letter result }
     {
-        let content = self.content.step(frame.number, frame.content, letter)?;
-        Some(Frame { content, ..frame })
+        read_letter(self.content, frame, letter)
     }
 
     // The frame after a text, or none where the content or the value does not go on with it.

@@ -8,5 +8,6 @@ mod engines;
 mod frame;
 mod next;
 
+pub use ask::{is_declared, read_letter};
 pub use engines::Engines;
 pub use frame::Frame;

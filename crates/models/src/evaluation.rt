@@ -77,6 +77,7 @@ pub fn fold<Atom: Copy, G: Algebra<Atom>>(
     ensures written { work.new ≡ replicate (length work.old) (G.Algebra.operations algebra.now).empty_word }
 {
     let answer = evaluate(algebra, nodes, work);
-    work.fill_with(|| algebra.empty_word());
+    let empty_word = algebra.empty_word();
+    work.fill_with(|| empty_word);
     answer
 }
