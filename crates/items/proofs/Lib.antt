@@ -2,6 +2,7 @@ pub mod Agreeing
 pub mod Answering
 pub mod Examples
 pub mod Running
+pub mod Standing
 pub mod Tagging
 pub mod Tallying
 pub mod Texts

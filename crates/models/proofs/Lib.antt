@@ -1,3 +1,4 @@
+pub mod Clearing
 pub mod Derivation
 pub mod Folding
 pub mod Joins

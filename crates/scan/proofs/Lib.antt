@@ -8,6 +8,7 @@ pub mod Numbering
 pub mod Remarks
 pub mod Repeating
 pub mod Runs
+pub mod Stepwise
 pub mod Turning
 pub mod Wording
 pub mod Writing

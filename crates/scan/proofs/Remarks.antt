@@ -84,14 +84,14 @@ stop_front text at b t r e h = by (two_dashes (b ∷ t)) refl
         let q : word (codes "-->") (b ∷ t) ≡ bad = word_bad 45 (codes "->") (b ∷ t) (no_dash b p) in
         subst (λ f. EndOf text at f r) (sym (rest_bad b t (dashes_turned b t false d) p)) (subst (λ f. EndOf text at f r) q h)
 
-end_plain : (text : List ℕ) (i : ℕ) (r : Option ℕ) → i < length text → goes_on (drop i text) ≡ true → EndOf text (i + 1) (comment_rest (drop (i + 1) text)) r → EndOf text i (comment_rest (drop i text)) r
+pub end_plain : (text : List ℕ) (i : ℕ) (r : Option ℕ) → i < length text → goes_on (drop i text) ≡ true → EndOf text (i + 1) (comment_rest (drop (i + 1) text)) r → EndOf text i (comment_rest (drop i text)) r
 end_plain text i r lt e h =
     let front : drop i text ≡ get_or text i 0 ∷ drop (i + 1) text = drop_more text i 0 lt in
     let same : comment_rest (drop i text) ≡ held (get_or text i 0) (comment_rest (drop (i + 1) text)) = ap comment_rest front ∙ plain_front (get_or text i 0) (drop (i + 1) text) (ap goes_on (sym front) ∙ e) in
     subst (λ f. EndOf text i f r) (sym same)
     (end_held text i (get_or text i 0) (comment_rest (drop (i + 1) text)) r (end_back text i (i + 1) (comment_rest (drop (i + 1) text)) r (omega arith) h))
 
-end_stop : (text : List ℕ) (i : ℕ) (r : Option ℕ) → i < length text → goes_on (drop i text) ≡ false → EndOf text i (word (codes "-->") (drop i text)) r → EndOf text i (comment_rest (drop i text)) r
+pub end_stop : (text : List ℕ) (i : ℕ) (r : Option ℕ) → i < length text → goes_on (drop i text) ≡ false → EndOf text i (word (codes "-->") (drop i text)) r → EndOf text i (comment_rest (drop i text)) r
 end_stop text i r lt e h =
     let front : drop i text ≡ get_or text i 0 ∷ drop (i + 1) text = drop_more text i 0 lt in
     subst (λ t. EndOf text i (comment_rest t) r) (sym front)
@@ -103,7 +103,7 @@ end_along zero text at i r e le on h = let same : i ≡ at = omega arith in subs
 end_along (suc n) text at i r e le on h =
     end_plain text at r (omega arith) (on at (omega arith) (omega arith)) (end_along n text (at + 1) i r (omega arith) le (λ k low high. on k (omega arith) high) h)
 
-end_nothing : (text : List ℕ) (i : ℕ) → length text ≤ i → EndOf text i (comment_rest (drop i text)) None
+pub end_nothing : (text : List ℕ) (i : ℕ) → length text ≤ i → EndOf text i (comment_rest (drop i text)) None
 unfolding comment_rest
 end_nothing text i le = subst (λ f. EndOf text i f None) (sym (ap comment_rest (drop_all i text le))) tt
 
