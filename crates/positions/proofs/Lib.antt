@@ -3,5 +3,7 @@ pub mod Gathering
 pub mod Marking
 pub mod Meeting
 pub mod Reading
+pub mod Removals
 pub mod Sorting
 pub mod Splitting
+pub mod Tabling

@@ -222,7 +222,7 @@ module _ {A X : Type 0} (stands : A → X → Type 0) (nodes : List (Node A)) (m
   no_union never s u n fits union h =
       let (p, sp, r) = (union n).0 h in has_none n (subst (λ t. Has t n) (zero_row never p (has_small s p fits sp)) r)
 
-  ends_answer : (s u : ℕ) → s < 2 ^ 64 → Union rows base s u → Decides (eqb (u % 2) 1) (ModelRest stands nodes models number s [])
+  pub ends_answer : (s u : ℕ) → s < 2 ^ 64 → Union rows base s u → Decides (eqb (u % 2) 1) (ModelRest stands nodes models number s [])
   ends_answer s u fits union =
       elim (coded_or_not nodes models number) [
         | inl (e, c) ↦ ends_decided stands nodes models number e c s (eqb (u % 2) 1) (iff_then (bit_zero u) (end_told stands nodes models rows [] number base from_one starts e c followed s u fits union))
@@ -234,10 +234,10 @@ module _ {A X : Type 0} (stands : A → X → Type 0) (nodes : List (Node A)) (m
       undecided false not_so never = λ h. never h.0 h.1
 
   module _ (alive : (a : A) → (x : X) × stands a x) where
-    open_none : get_or rows base 0 ≡ 0 → Empty (ModelWords stands nodes models number)
+    pub open_none : get_or rows base 0 ≡ 0 → Empty (ModelWords stands nodes models number)
     open_none none w h = begins stands nodes models rows [] number base from_one starts h.0 h.1 followed alive none
 
-    open_some : get_or rows base 0 ≢ 0 → Answers (ModelWords stands nodes models number) (ModelRest stands nodes models number) (Some 1)
+    pub open_some : get_or rows base 0 ≢ 0 → Answers (ModelWords stands nodes models number) (ModelRest stands nodes models number) (Some 1)
     open_some some =
         elim (coded_or_not nodes models number) [
           | inl (e, c) ↦ begin_some stands nodes models number e c alive
@@ -253,11 +253,11 @@ module _ {A X : Type 0} (stands : A → X → Type 0) (nodes : List (Node A)) (m
         told false e = open_some (eqb-false (get_or rows base 0) 0 e)
 
     module _ (places : List (Node A)) (placed : Placed nodes models places) (spare : Spare nodes models places) (x : X) (s u k : ℕ) (fits : s < 2 ^ 64) (union : Union rows base s u) (kept : Kept stands places base x u k) where
-      step_nothing : k ≡ 0 → Empty (residue (ModelRest stands nodes models number s) (x ∷ []))
+      pub step_nothing : k ≡ 0 → Empty (residue (ModelRest stands nodes models number s) (x ∷ []))
       step_nothing none w h =
           step_none stands nodes models number h.0 h.1 x s k (step_told stands nodes models rows places number base from_one starts h.0 h.1 followed placed spare x s u k fits union kept) none w h
 
-      step_something : k < 2 ^ 64 → k ≢ 0 → Answers (residue (ModelRest stands nodes models number s) (x ∷ [])) (ModelRest stands nodes models number) (Some k)
+      pub step_something : k < 2 ^ 64 → k ≢ 0 → Answers (residue (ModelRest stands nodes models number s) (x ∷ [])) (ModelRest stands nodes models number) (Some k)
       step_something small some =
           elim (coded_or_not nodes models number) [
             | inl (e, c) ↦

@@ -1,3 +1,4 @@
+pub mod Beginning
 pub mod Checking
 pub mod Lawful
 pub mod Plainness

@@ -2,3 +2,4 @@ pub mod Completing
 pub mod Firsts
 pub mod Forking
 pub mod Marking
+pub mod Taking
