@@ -183,6 +183,12 @@ groups zero =
     }
 groups (suc n) = one_deeper (read_group n) (Group n) (groups n)
 
+pub group_agrees : (n : ℕ) → Agree (read_group n) (Group n)
+group_agrees n = (groups n).agree
+
+pub particle_agrees : (n : ℕ) → Agree (read_cp (read_group n)) (Cp (Group n))
+particle_agrees n = cp_agrees (read_group n) (Group n) (groups n)
+
 pub member_shrinks : (n : ℕ) (joint : Joint) → Shrinks (member (read_group n) joint)
 member_shrinks n joint = (member_steps (read_group n) (Group n) (groups n) joint).shrinks
 

@@ -1,4 +1,5 @@
 pub mod ContentGrammar
+pub mod Counted
 pub mod DeclarationGrammar
 pub mod Examples
 pub mod Grammars

@@ -2,4 +2,5 @@ pub mod Lengths
 pub mod Pieces
 pub mod Reading
 pub mod Spelling
+pub mod Verbatims
 pub mod Whole
