@@ -1,5 +1,6 @@
 pub mod Beginnings
 pub mod Between
+pub mod Counted
 pub mod Digits
 pub mod Lining
 pub mod Lists

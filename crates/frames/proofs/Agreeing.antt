@@ -7,7 +7,7 @@ use Rattle.frames.proofs.Ranges.{each_in_range, one_in_range}
 
 module _ (m : Meaning) where
   -- What was found of every number from 1 to 63 is what is agreed.
-  agreed_all : ((n : ℕ) → 1 ≤ n → n < 64 → AgreesAt m n true) → Agreed m.contents m.values
+  pub agreed_all : ((n : ℕ) → 1 ≤ n → n < 64 → AgreesAt m n true) → Agreed m.contents m.values
   agreed_all h = record {
     law = (h 1 (omega arith) (omega arith)).0;
     values = λ n low high. (h n low (omega arith)).1;
