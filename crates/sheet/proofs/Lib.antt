@@ -1,6 +1,7 @@
 pub mod Balance
 pub mod Calls
 pub mod Completion
+pub mod Depths
 pub mod Expecting
 pub mod Forests
 pub mod Frames
