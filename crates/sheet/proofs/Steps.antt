@@ -147,7 +147,7 @@ module _ (M : Meaning) where
           tallied_more s (applied s (change.Root f)) calls e tally refl refl,
           passed_more calls e ∙ unpassed,
           agreed,
-          record { levels = new ∷ []; outermost = refl; led = led; alive = alive; held = ([], f, refl, reads, refl) },
+          record { levels = new ∷ []; outermost = refl; led = led; alive = alive; held = ([], f, refl, reads, refl); fits = omega arith },
         ),
       )
 
@@ -238,6 +238,10 @@ module _ (M : Meaning) where
     around_is : around s ≡ in_top.front
     around_is = ap (λ fs. take (length fs - 1) fs) in_top.split ∙ front_is in_top.front f
 
+    -- The innermost frame and those around it are all that are open.
+    one_more : depth s ≡ length (around s) + 1
+    one_more = ap length in_top.split ∙ (length_push in_top.front f ∙ ap (λ fs. length fs + 1) (sym around_is))
+
     -- The accepted events and one more begin no document where those of the open elements and it begin none.
     never : (e : Event) → (BeginsDocument M.contents M.values s.root (opened (in_top.level ∷ in_top.around) ++ (e ∷ [])) → ⊥) → BeginsDocument M.contents M.values s.root (events calls ++ (e ∷ [])) → ⊥
     never e h d = h (subst (λ es. BeginsDocument M.contents M.values s.root (es ++ (e ∷ []))) in_top.led d)
@@ -319,6 +323,7 @@ module _ (M : Meaning) where
                   reads_opened M n k open-frame,
                   (in_top.front, g, ap (λ fs. fs ++ (g ∷ [])) around_is, child_read.1, in_top.held),
                 );
+                fits = omega (arith, fits, one_more, length-append (around s) (g ∷ k ∷ []));
               },
             ),
           )
@@ -379,6 +384,7 @@ module _ (M : Meaning) where
                 led = after_events e (longer ∷ in_top.around) (text_led b bs bytes text_read.0 text_read.1);
                 alive = text_alive b bs bytes text_read.0 text_read.1;
                 held = (in_top.front, g, ap (λ fs. fs ++ (g ∷ [])) around_is, text_read.2, in_top.held);
+                fits = omega (arith, here.3.fits, one_more, length_push (around s) g);
               },
             ),
           )
@@ -452,6 +458,7 @@ module _ (M : Meaning) where
                 led = led ∙ sym told;
                 alive = still;
                 held = (under, g, around_is ∙ split, reads_child M g m l.number l.done reads, held);
+                fits = omega (arith, here.3.fits, one_more);
               },
             ),
           )

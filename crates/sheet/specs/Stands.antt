@@ -1,5 +1,5 @@
 -- What the state of a sheet stands for: the calls that were accepted so far.
-use Rattle.std.specs.Prelude.{◌≡◌, ℕ, true, false, List, [], ◌∷◌, ◌++◌, length, Some, None, Ok, Err, Option, Result}
+use Rattle.std.specs.Prelude.{◌≡◌, ℕ, ◌≤◌, true, false, List, [], ◌∷◌, ◌++◌, length, Some, None, Ok, Err, Option, Result}
 use Rattle.engine.specs.Languages.{Language, Empty, Inhabited, Same, residue}
 use Rattle.engine.specs.Trees.{letters, joined, Declared, Event}
 use Rattle.engine.specs.declared.alphabet.Letter.{Letter}
@@ -9,7 +9,7 @@ use Rattle.frames.specs.Agreements.{Agreed}
 use Rattle.sheet.specs.Histories.{Call, send, keep, root, events, passed}
 use Rattle.sheet.specs.Levels.{Level, opened, Outermost, Alive}
 use Rattle.sheet.specs.Questions.{IsDocument, Right}
-use Rattle.sheet.specs.States.{applied, Fitting}
+use Rattle.sheet.specs.States.{applied, depth, Fitting}
 use Rattle.calls.specs.declared.answer.Refusal.{Refusal}
 use Rattle.frames.specs.declared.frame.Frame.{Frame}
 use Rattle.frames.specs.Meanings.{Meaning}
@@ -44,13 +44,15 @@ module _ (M : Meaning) where
     pub begun : root calls ≡ Some s.root
     pub count : s.count ≡ length (events calls)
 
-  -- The open elements of the state are those that the accepted events have opened, and there is a way on.
+  -- The open elements of the state are those that the accepted events have opened, at most 64, and there is a
+  -- way on.
   pub record Within (s : State) (calls : List Call) : Type 0 where
     pub levels : List Level
     pub outermost : Outermost s.root levels
     pub led : events calls ≡ opened levels
     pub alive : Alive M.contents M.values [] levels
     pub held : Held s.frames.items [] levels
+    pub fits : depth s ≤ 64
 
   abbrev pub StandsAt : Phase → State → List Call → Type 0
   StandsAt phase.Fresh s calls = (calls ≡ []) × (s.count ≡ 0)
