@@ -1,10 +1,10 @@
 -- Answers about the front of a text, carried from its parts.
-use Rattle.std.proofs.Common.{◌≡◌, ℕ, ◌-◌, ◌≤◌, true, false, List, take, drop, Some, None, codes, Option, MatchOption, IsSomeAnd, sym, refl, subst, arith}
+use Rattle.std.proofs.Common.{◌≡◌, ℕ, ◌-◌, ◌≤◌, List, take, drop, Some, None, codes, Option, MatchOption, IsSomeAnd, sym, refl, subst, arith}
 use Rattle.scan.specs.Bytes.{skip}
 use Rattle.scan.specs.Names.{Name, read_name}
 use Rattle.scan.specs.Readings.{Front, bad, got, word, EndOf}
 use Rattle.items.specs.Places.{ItemOf, said}
-use Rattle.items.specs.Readers.{closed_with, first_of, end_named, end_opened, start_named, start_opened, commented, there}
+use Rattle.items.specs.Readers.{closed_with, first_of, end_named, end_opened, start_named, start_opened, commented}
 use Rattle.items.specs.Values.{Value, start_tag, empty_tag, end_tag}
 use Rattle.scan.specs.declared.read.Read.{Read}
 use Rattle.items.specs.declared.item.Kind.{Kind}

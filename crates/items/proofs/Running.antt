@@ -1,21 +1,20 @@
 -- A run of text, byte by byte.
-use Rattle.std.proofs.Common.{◌≡◌, ℕ, zero, suc, ◌+◌, ◌-◌, ◌<◌, min, Bool, true, false, cond, not, ◌&&◌, List, [], ◌∷◌, length, get_or, take, drop, Some, None, sym, refl, ap, ◌∙◌, subst, arith, length-drop, length-take}
-use Rattle.std.proofs.lemmas.List.{drop_more}
-use Rattle.std.proofs.lemmas.Bool.{both_ways, not-true, not-false, and_parts}
-use Rattle.std.proofs.lemmas.List.Sums.{prefix_len-le-length}
+use Rattle.std.proofs.Common.{◌≡◌, ℕ, zero, suc, ◌+◌, ◌-◌, ◌<◌, ◌≤◌, min, Bool, true, false, not, ◌&&◌, eqb, List, [], ◌∷◌, length, get_or, take, drop, Some, None, Option, slice_get, codes, sym, refl, ap, ◌∙◌, subst, inl, inr, arith, length-drop, length-take}
+use Rattle.std.proofs.lemmas.List.{drop_more, drop_all}
+use Rattle.std.proofs.lemmas.Bool.{cases_lt, both_ways, not-true, not-false, and_parts, and_left, ne_eqb}
 use Rattle.std.specs.Bool.{then_some}
-use Rattle.scan.proofs.Naming.{leading_one}
+use Rattle.std.specs.Option.{unwrap_or}
 use Rattle.scan.specs.declared.read.Read.{Read}
 use Rattle.items.specs.declared.item.Kind.{Kind}
-use Rattle.std.specs.List.{list_all, prefix_len, range_with_len}
-use Rattle.scan.specs.Bytes.{first_is}
+use Rattle.scan.specs.Bytes.{is_text_byte, first_is}
 use Rattle.scan.specs.Comments.{held}
-use Rattle.scan.specs.Readings.{bad, got}
+use Rattle.scan.specs.Readings.{bad, got, word}
 use Rattle.scan.proofs.Agreements.{chosen_true, chosen_false}
-use Rattle.scan.proofs.Fronts.{first_there}
+use Rattle.scan.proofs.Fronts.{first_there, first_past, first_peeked}
+use Rattle.scan.proofs.Wording.{word_bad}
 use Rattle.items.specs.Grammar.{is_markup}
 use Rattle.items.specs.Places.{ItemOf}
-use Rattle.items.specs.Readers.{chars_from, as_chars, allowed}
+use Rattle.items.specs.Readers.{chars_from, as_chars, allowed, in_run, RunStops, there}
 use Rattle.items.specs.Values.{chars}
 use Rattle.items.specs.declared.item.Kind.TheVariants as kind
 
@@ -50,26 +49,25 @@ as_none : (rest : List ℕ) → as_chars (got [] rest) ≡ bad
 unfolding as_chars
 as_none rest = refl
 
--- Whether a byte of the text up to the next markup stands at the front.
-none_leads : (t : List ℕ) → 0 ≡ prefix_len unmarked t → first_is unmarked t ≡ false
-none_leads [] e = refl
-none_leads (b ∷ t) e = by (unmarked b) e
-  where
-    by : (v : Bool) → 0 ≡ cond v (1 + prefix_len unmarked t) 0 → v ≡ false
-    by true h = absurd (omega arith)
-    by false h = refl
+and_all : (x : Bool) → (x && true) ≡ x
+and_all true = refl
+and_all false = refl
 
-some_lead : (n : ℕ) (t : List ℕ) → suc n ≡ prefix_len unmarked t → first_is unmarked t ≡ true
-some_lead n [] e = absurd (omega arith)
-some_lead n (b ∷ t) e = by (unmarked b) e
-  where
-    by : (v : Bool) → suc n ≡ cond v (1 + prefix_len unmarked t) 0 → v ≡ true
-    by true h = refl
-    by false h = absurd (omega arith)
+-- Whether the byte at a place may stand: `]` where it begins no `]]>`, and every other byte by itself.
+pub closing_stands : (text : List ℕ) (at b : ℕ) (r : Bool) → Some b ≡ slice_get text at → b ≡ 93 → r ≡ there (word (codes "]]>") (drop at text)) → not r ≡ allowed (drop at text)
+closing_stands text at b r e is closes =
+    let first : first_is is_text_byte (drop at text) ≡ true = first_peeked is_text_byte text at (Some b) e ∙ ap is_text_byte is in
+    ap not closes ∙ sym (ap (λ v. v && not (there (word (codes "]]>") (drop at text)))) first)
 
--- The bytes up to the next markup are a run where each of them may stand.
-abbrev stands : List ℕ → ℕ → Bool
-stands text k = allowed (drop k text)
+pub other_stands : (text : List ℕ) (at b : ℕ) (r : Bool) → Some b ≡ slice_get text at → (b ≡ 93 → ⊥) → r ≡ is_text_byte b → r ≡ allowed (drop at text)
+other_stands text at b r e other is =
+    let first : first_is is_text_byte (drop at text) ≡ is_text_byte b = first_peeked is_text_byte text at (Some b) e in
+    let no_closing : first_is (eqb 93) (drop at text) ≡ false = first_peeked (eqb 93) text at (Some b) e ∙ ne_eqb 93 b (λ same. other (sym same)) in
+    let none : there (word (codes "]]>") (drop at text)) ≡ false = ap there (word_bad 93 (codes "]>") (drop at text) no_closing) in
+    is ∙ sym (ap (λ v. first_is is_text_byte (drop at text) && not v) none ∙ and_all (first_is is_text_byte (drop at text)) ∙ first)
+
+pub none_stands : (text : List ℕ) (at : ℕ) → None ≡ slice_get text at → false ≡ allowed (drop at text)
+none_stands text at e = sym (and_left _ _ (first_peeked is_text_byte text at None e))
 
 held_got : (b : ℕ) (bytes rest : List ℕ) → held b (got bytes rest) ≡ got (b ∷ bytes) rest
 unfolding held
@@ -87,55 +85,98 @@ module _ (text : List ℕ) where
   one_more at e ok =
       ap chars_from (cut at e) ∙ chars_more (get_or text at 0) (drop (at + 1) text) (ap (first_is unmarked) (sym (cut at e)) ∙ e) (ap allowed (sym (cut at e)) ∙ ok)
 
-  fewer : (n at : ℕ) → suc n ≡ prefix_len unmarked (drop at text) → n ≡ prefix_len unmarked (drop (at + 1) text)
-  fewer n at e =
-      let one = leading_one unmarked text at (some_lead n (drop at text) e) in omega (arith, one)
+  -- Bytes that a run may hold, up to a place.
+  abbrev Held : ℕ → ℕ → Type 0
+  Held at end = (k : ℕ) → at ≤ k → k < end → in_run (drop k text) ≡ true
 
-  as_all : (n at : ℕ) → n ≡ prefix_len unmarked (drop at text) → list_all (stands text) (range_with_len at n) ≡ true → chars_from (drop at text) ≡ got (take n (drop at text)) (drop (at + n) text)
-  as_all zero at e ok =
-      let place : at ≡ at + 0 = omega arith in
-      chars_stop (drop at text) (none_leads (drop at text) e) ∙ ap (λ k. got [] (drop k text)) place
-  as_all (suc n) at e ok =
-      let lead = some_lead n (drop at text) e in
-      let parts = and_parts (stands text at) (list_all (stands text) (range_with_len (at + 1) n)) ok in
-      let place : (at + 1) + n ≡ at + suc n = omega arith in
-      one_more at lead parts.0
-      ∙ ap (held (get_or text at 0)) (as_all n (at + 1) (fewer n at e) parts.1)
-      ∙ held_got (get_or text at 0) (take n (drop (at + 1) text)) (drop ((at + 1) + n) text)
-      ∙ ap (λ k. got (get_or text at 0 ∷ take n (drop (at + 1) text)) (drop k text)) place
-      ∙ ap (λ l. got (take (suc n) l) (drop (at + suc n) text)) (sym (cut at lead))
+  along : (n at end : ℕ) → at + n ≡ end → Held at end → first_is unmarked (drop end text) ≡ false → chars_from (drop at text) ≡ got (take n (drop at text)) (drop end text)
+  along zero at end e on stops =
+      let same : end ≡ at = omega arith in
+      chars_stop (drop at text) (ap (λ k. first_is unmarked (drop k text)) (sym same) ∙ stops) ∙ ap (λ k. got [] (drop k text)) (sym same)
+  along (suc n) at end e on stops =
+      let ok = and_parts (first_is unmarked (drop at text)) (allowed (drop at text)) (on at (omega arith) (omega arith)) in
+      one_more at ok.0 ok.1
+      ∙ ap (held (get_or text at 0)) (along n (at + 1) end (omega arith) (λ k low high. on k (omega arith) high) stops)
+      ∙ held_got (get_or text at 0) (take n (drop (at + 1) text)) (drop end text)
+      ∙ ap (λ l. got (take (suc n) l) (drop end text)) (sym (cut at ok.0))
 
-  as_not_all : (n at : ℕ) → n ≡ prefix_len unmarked (drop at text) → list_all (stands text) (range_with_len at n) ≡ false → chars_from (drop at text) ≡ bad
-  as_not_all zero at e fails = absurd (both_ways _ fails refl)
-  as_not_all (suc n) at e fails = by (stands text at) refl (λ more. as_not_all n (at + 1) (fewer n at e) more)
-    where
-      by : (v : Bool) → stands text at ≡ v → (list_all (stands text) (range_with_len (at + 1) n) ≡ false → chars_from (drop (at + 1) text) ≡ bad) → chars_from (drop at text) ≡ bad
-      by true ok later =
-          one_more at (some_lead n (drop at text) e) ok
-          ∙ ap (held (get_or text at 0)) (later (sym (ap (λ v. v && list_all (stands text) (range_with_len (at + 1) n)) ok) ∙ fails))
-          ∙ held_bad (get_or text at 0)
-      by false not_ok later = chars_bad (drop at text) (some_lead n (drop at text) e) not_ok
+  along_bad : (n at end : ℕ) → at + n ≡ end → Held at end → chars_from (drop end text) ≡ bad → chars_from (drop at text) ≡ bad
+  along_bad zero at end e on wrong =
+      let same : end ≡ at = omega arith in ap (λ k. chars_from (drop k text)) (sym same) ∙ wrong
+  along_bad (suc n) at end e on wrong =
+      let ok = and_parts (first_is unmarked (drop at text)) (allowed (drop at text)) (on at (omega arith) (omega arith)) in
+      one_more at ok.0 ok.1
+      ∙ ap (held (get_or text at 0)) (along_bad n (at + 1) end (omega arith) (λ k low high. on k (omega arith) high) wrong)
+      ∙ held_bad (get_or text at 0)
 
-  -- The run that is answered, from how many bytes begin no markup and whether each may stand.
+  -- Where a run does not go on, the end of the text included.
+  record Ended (at end : ℕ) : Type 0 where
+    forward : at ≤ length text → at ≤ end
+    inside : end ≤ length text
+    on : Held at end
+    stops : in_run (drop end text) ≡ false
+
+  ended : (at : ℕ) (stop : Option ℕ) → RunStops text at stop → Ended at (unwrap_or stop (length text))
+  ended at None on = record {
+    forward = λ h. h;
+    inside = omega arith;
+    on = on;
+    stops = ap in_run (drop_all (length text) text (omega arith));
+  }
+  ended at (Some i) h = record {
+    forward = λ _. h.0;
+    inside = (let lt : i < length text = h.1 in omega arith);
+    on = h.3;
+    stops = h.2;
+  }
+
+  -- The run that is answered.
   abbrev pub run_item : ℕ → ℕ → Read Kind
   run_item at end = record { value = kind.Run (record { start = at; end = end }); end = end }
 
-  pub run_asked : (at n : ℕ) (b : Bool) → n ≡ prefix_len unmarked (drop at text) → 0 < n → b ≡ list_all (stands text) (range_with_len at n) → ItemOf text at (as_chars (chars_from (drop at text))) (then_some b (run_item at (at + n)))
-  run_asked at n true e some ok =
-      let few = prefix_len-le-length unmarked (drop at text) in
+  -- A run stands where markup or the end closes at least one byte.
+  closed : (at end : ℕ) → Ended at end → at < end → first_is unmarked (drop end text) ≡ false → ItemOf text at (as_chars (chars_from (drop at text))) (Some (run_item at end))
+  closed at end e some stops =
+      let n = end - at in
       let size : length (drop at text) ≡ length text - at = length-drop at text in
       let count : length (take n (drop at text)) ≡ min n (length (drop at text)) = length-take n (drop at text) in
-      let same : (at + n) - at ≡ n = omega arith in
-      subst (λ g. ItemOf text at g (Some (run_item at (at + n)))) (sym (ap as_chars (as_all n at e (sym ok)) ∙ as_some (take n (drop at text)) (drop (at + n) text) (omega (arith, few))))
-      (record { forward = omega arith; inside = omega (arith, few); behind = refl }, ap (λ k. chars (take k (drop at text))) same)
-  run_asked at n false e some ok =
-      subst (λ g. ItemOf text at g None) (sym (ap as_chars (as_not_all n at e (sym ok)) ∙ as_bad)) tt
+      let within : end ≤ length text = e.inside in
+      subst (λ g. ItemOf text at g (Some (run_item at end))) (sym (ap as_chars (along n at end (omega arith) e.on stops) ∙ as_some (take n (drop at text)) (drop end text) (omega arith)))
+      (record { forward = omega arith; inside = within; behind = refl }, refl)
+
+  none_at : (at : ℕ) → chars_from (drop at text) ≡ bad → ItemOf text at (as_chars (chars_from (drop at text))) None
+  none_at at e = subst (λ g. ItemOf text at g None) (sym (ap as_chars e ∙ as_bad)) tt
 
   -- No run stands where markup begins or the text ends.
   pub run_none : (at : ℕ) → first_is unmarked (drop at text) ≡ false → ItemOf text at (as_chars (chars_from (drop at text))) None
   run_none at e = subst (λ g. ItemOf text at g None) (sym (ap as_chars (chars_stop (drop at text) e) ∙ as_none (drop at text))) tt
 
-  pub run_empty : (at n : ℕ) → n ≡ prefix_len unmarked (drop at text) → n ≡ 0 → ItemOf text at (as_chars (chars_from (drop at text))) None
-  run_empty at n e none =
-      let zero_leads : 0 ≡ prefix_len unmarked (drop at text) = omega arith in
-      run_none at (none_leads (drop at text) zero_leads)
+  -- Nor where a byte stops it that may not stand.
+  stopped : (at end : ℕ) → Ended at end → at ≤ end → first_is unmarked (drop end text) ≡ true → ItemOf text at (as_chars (chars_from (drop at text))) None
+  stopped at end e before goes =
+      let wrong : allowed (drop end text) ≡ false = sym (ap (λ v. v && allowed (drop end text)) goes) ∙ e.stops in
+      none_at at (along_bad (end - at) at end (omega arith) e.on (chars_bad (drop end text) goes wrong))
+
+  pub run_asked : (at end : ℕ) (stop : Option ℕ) (b goes : Bool) → RunStops text at stop → end ≡ unwrap_or stop (length text) → at < end → goes ≡ first_is unmarked (drop end text) → b ≡ not goes → ItemOf text at (as_chars (chars_from (drop at text))) (then_some b (run_item at end))
+  run_asked at end stop b goes h is some asked answer =
+      let e : Ended at end = subst (Ended at) (sym is) (ended at stop h) in
+      subst (λ v. ItemOf text at (as_chars (chars_from (drop at text))) (then_some v (run_item at end))) (sym answer) (by goes asked e)
+    where
+      by : (v : Bool) → v ≡ first_is unmarked (drop end text) → Ended at end → ItemOf text at (as_chars (chars_from (drop at text))) (then_some (not v) (run_item at end))
+      by true v e = stopped at end e (omega arith) (sym v)
+      by false v e = closed at end e some (sym v)
+
+  pub run_empty : (at end : ℕ) (stop : Option ℕ) → RunStops text at stop → end ≡ unwrap_or stop (length text) → end ≤ at → ItemOf text at (as_chars (chars_from (drop at text))) None
+  run_empty at end stop h is none =
+      let e : Ended at end = subst (Ended at) (sym is) (ended at stop h) in
+      elim (cases_lt (length text) at) [
+        | inl past ↦ run_none at (first_past unmarked text at (omega arith))
+        | inr within ↦
+            let before : at ≤ end = e.forward within in
+            let same : at ≡ end = omega arith in
+            by (first_is unmarked (drop end text)) refl e before same
+      ]
+    where
+      by : (v : Bool) → first_is unmarked (drop end text) ≡ v → Ended at end → at ≤ end → at ≡ end → ItemOf text at (as_chars (chars_from (drop at text))) None
+      by true v e before same = stopped at end e before v
+      by false v e before same = run_none at (ap (λ k. first_is unmarked (drop k text)) same ∙ v)

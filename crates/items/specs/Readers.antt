@@ -1,5 +1,5 @@
 -- The grammar of a document's items, worked out: functions that read at the front of a text.
-use Rattle.std.specs.Prelude.{ℕ, Bool, true, false, not, ◌&&◌, List, [], ◌∷◌, codes, nat_eq}
+use Rattle.std.specs.Prelude.{◌≡◌, ℕ, ◌<◌, ◌≤◌, Bool, true, false, not, ◌&&◌, List, [], ◌∷◌, length, drop, Option, MatchOption, codes, nat_eq}
 use Rattle.scan.specs.Bytes.{is_text_byte, first_is, skip}
 use Rattle.scan.specs.Comments.{held, read_comment}
 use Rattle.scan.specs.Names.{Name, read_name}
@@ -61,6 +61,16 @@ there (got v rest) = true
 -- Whether the first byte may stand in text, and `]]>` does not begin with it.
 abbrev pub allowed : List ℕ → Bool
 allowed t = first_is is_text_byte t && not (there (word (codes "]]>") t))
+
+-- Whether a run may hold the first byte: it begins no markup, and may stand.
+abbrev pub in_run : List ℕ → Bool
+in_run t = first_is (λ b. not (is_markup b)) t && allowed t
+
+-- The first place from this one on where a run does not go on, or none where it goes on up to the end of the text.
+abbrev pub RunStops : List ℕ → ℕ → Option ℕ → Type 0
+RunStops text at stop =
+    MatchOption stop ((k : ℕ) → at ≤ k → k < length text → in_run (drop k text) ≡ true)
+    (λ i. (at ≤ i) × (i < length text) × (in_run (drop i text) ≡ false) × ((k : ℕ) → at ≤ k → k < i → in_run (drop k text) ≡ true))
 
 -- The bytes up to the next markup or the end, if each of them may stand in text and `]]>` begins at none.
 unfoldable pub chars_from : List ℕ → Front (List ℕ)

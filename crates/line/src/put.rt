@@ -1,6 +1,6 @@
 // A writer over a lent buffer: bytes, numbers and pieces are put one behind another.
 
-ghost use Rattle.std.specs.Prelude.{◌≡◌, ◌≤◌, [], ◌∷◌, length, map};
+ghost use Rattle.std.specs.Prelude.{◌≡◌, ◌≤◌, [], ◌∷◌, length, map, IfNone};
 ghost use Rattle.line.specs.Decimals.{OneDecimal};
 ghost use Rattle.line.specs.Pieces.{said};
 ghost use Rattle.line.specs.Placed.{Put, Kept, PutNumber, PutPieces};
@@ -47,6 +47,7 @@ impl<'o> Writer<'o> {
     fn put(&mut self, piece: Piece) -> Option<()>
         ensures same_buffer { self.new.out.ghost_name ≡ self.old.out.ghost_name }
         ensures written { PutPieces (said piece.entry ∷ []) self.old.out.now self.old.at self.new.out.now (reached self.new result) }
+        ensures place { IfNone result (self.new.at ≡ self.old.at) }
     {
         match piece {
             Piece::Verbatim(bytes) => self.put_bytes(bytes),
@@ -54,22 +55,24 @@ impl<'o> Writer<'o> {
         }
     }
 
-    // Puts the text of the number in base ten, if it has room.
+    // Puts the text of the number in base ten, if it has room; else the writer is as it was.
     pub fn put_number(&mut self, number: u64) -> Option<()>
         ensures same_buffer { self.new.out.ghost_name ≡ self.old.out.ghost_name }
         ensures written { PutNumber number self.old.out.now self.old.at self.new.out.now (reached self.new result) }
         ensures same { Kept self.old.out.now self.new.out.now (reached self.new result) }
+        ensures place { IfNone result (self.new.at ≡ self.old.at) }
         ensures one { OneDecimal }
     {
         let mut digits = Buffer::new();
         self.put_bytes(digits.format(number).as_bytes())
     }
 
-    // Puts the bytes, if they have room.
+    // Puts the bytes, if they have room; else the writer is as it was.
     pub fn put_bytes(&mut self, bytes: &[u8]) -> Option<()>
         ensures same_buffer { self.new.out.ghost_name ≡ self.old.out.ghost_name }
         ensures written { Put bytes.now self.old.out.now self.old.at self.new.out.now (reached self.new result) }
         ensures same { Kept self.old.out.now self.new.out.now (reached self.new result) }
+        ensures place { IfNone result (self.new.at ≡ self.old.at) }
     {
         let next = self.at.checked_add(bytes.len())?;
         if next > self.out.len() {

@@ -1,17 +1,11 @@
-use Rattle.std.proofs.Common.{not, ◌&&◌, drop, codes, sym, ap, ◌∙◌, rules}
-use Rattle.scan.specs.Bytes.{is_text_byte}
-use Rattle.scan.specs.Readings.{word}
-use Rattle.std.proofs.lemmas.Bool.{and_left}
-use Rattle.scan.proofs.Fronts.{first_asked}
-use Rattle.items.specs.Readers.{there}
+use Rattle.items.proofs.Running.{closing_stands, other_stands, none_stands}
 use Rattle.items.proofs.runs.may_stand.Goals as goal
 
-pub returns-then-is_some_and : goal.returns-then-is_some_and
-returns-then-is_some_and c =
-    let text = first_asked is_text_byte c.args.text.now c.args.at c.peek.result c.is_some_and.result c.peek.ensures (search rules) in
-    ap not c.closes_section.ensures ∙ sym (ap (λ b. b && not (there (word (codes "]]>") (drop c.args.at c.args.text.now)))) (sym text ∙ c.if-is_some_and.true))
+pub returns-in-Some-eq93 : goal.returns-in-Some-eq93
+returns-in-Some-eq93 c = closing_stands c.args.text.now c.args.at _ c.closes_section.result c.in-Some-eq93.ensures c.in-Some-eq93.field-0-test c.closes_section.ensures
 
-pub returns-else-is_some_and : goal.returns-else-is_some_and
-returns-else-is_some_and c =
-    let text = first_asked is_text_byte c.args.text.now c.args.at c.peek.result c.is_some_and.result c.peek.ensures (search rules) in
-    c.if-is_some_and.false ∙ sym (and_left _ _ (sym text ∙ c.if-is_some_and.false))
+pub returns-in-Some : goal.returns-in-Some
+returns-in-Some c = other_stands c.args.text.now c.args.at _ c.is_text_byte.result c.in-Some.ensures c.in-Some.byte-test.1 c.is_text_byte.ensures
+
+pub returns-in-None : goal.returns-in-None
+returns-in-None c = none_stands c.args.text.now c.args.at c.in-None.ensures

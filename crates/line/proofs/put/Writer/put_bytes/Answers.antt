@@ -1,7 +1,7 @@
 use Rattle.std.proofs.Common.{◌+◌, ◌-◌, ◌<◌, ◌++◌, length, take, drop, sym, refl, ap, ◌∙◌, subst, arith}
 use Rattle.std.proofs.lemmas.List.Edits.{paste_all}
 use Rattle.std.proofs.lemmas.Slice.{put_mid-paste}
-use Rattle.line.specs.Placed.{Put, short, Kept}
+use Rattle.line.specs.Placed.{Put, short}
 use Rattle.line.specs.Reached.{reached}
 use Rattle.line.proofs.Pieces.{standing}
 use Rattle.line.proofs.put.Writer.put_bytes.Goals as goal

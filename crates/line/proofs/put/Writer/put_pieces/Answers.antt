@@ -1,4 +1,4 @@
-use Rattle.std.proofs.Common.{refl, ap, ◌∙◌}
+use Rattle.std.proofs.Common.{ap, ◌∙◌}
 use Rattle.line.specs.Reached.{reached}
 use Rattle.line.proofs.Pieces.{still_inside, piece_then, piece_short, no_piece}
 use Rattle.line.proofs.put.Writer.put_pieces.Goals as goal
