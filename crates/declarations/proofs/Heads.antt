@@ -9,11 +9,12 @@ use Rattle.models.specs.Folds.{code}
 use Rattle.scan.specs.Lists.{all_listed}
 use Rattle.scan.specs.Bytes.{is_blank, first_is, skip}
 use Rattle.scan.specs.Names.{Name, read_name}
-use Rattle.scan.specs.Readings.{bad, got, word, EndOf, Stands}
+use Rattle.scan.specs.Readings.{Front, bad, got, word, EndOf, Stands}
 use Rattle.scan.specs.Spans.{bytes_at}
 use Rattle.scan.specs.declared.read.Read.{Read}
 use Rattle.scan.specs.declared.span.Span.{Span}
 use Rattle.scan.proofs.Ends.{worded, end_bad}
+use Rattle.scan.proofs.Writing.{puts_past}
 use Rattle.writing.proofs.Writing.{atoms_in_code, atoms_in_le}
 use Rattle.declarations.specs.Answers.{Nodes, DeclaredAt, with_model, name_start}
 use Rattle.declarations.specs.Inner.{ContentAt, HeadAt, WritesAt}
@@ -169,6 +170,15 @@ module _ (text : List ℕ) (names : List Name) (at : ℕ) where
           differ = λ h. is.differ (sym all ∙ h);
         },
       )
+
+  -- A table with no place left stays as it is.
+  pub model_past : (table : Nodes) (used : ℕ) → length table ≤ used → table ≡ with_model names (read_declaration (drop at text)) table used
+  unfolding with_model
+  model_past table used h = by (read_declaration (drop at text))
+    where
+      by : (front : Front Declaration) → table ≡ with_model names front table used
+      by bad = refl
+      by (got d rest) = sym (puts_past table used (code (model names d.content)) h)
 
   pub model_none : (table : Nodes) (used : ℕ) (told : Option Declared) → is_some told ≡ false → DeclaredAt text names at told → table ≡ with_model names (read_declaration (drop at text)) table used
   unfolding with_model

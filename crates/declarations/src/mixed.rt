@@ -28,13 +28,12 @@ struct Seen {
 }
 
 impl Seen {
-    // With one name more, by its number. One without a number is none of those that have to differ.
+    // With one name more, by its number. One without a number counts as number 0, which no name has, so two of them do
+    // not differ.
     fn with(self, number: Option<u8>) -> Seen
         ensures { (names : List Name) (its : List Name) (name : Name) → length names ≤ 63 → NumberIs (number_of names name) number → SeenIs names its self → SeenIs names (its ++ (name ∷ [])) result }
     {
-        let Some(number) = number else {
-            return self;
-        };
+        let number = number.unwrap_or(0);
         let came = contains(self.set, number);
         Seen {
             set: self.set | only(number),

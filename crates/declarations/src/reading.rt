@@ -92,6 +92,9 @@ pub fn write_model(
 )
     ensures { nodes.new ≡ with_model (numbered_names text.now entries.now) (read_declaration (drop at text.now)) nodes.old used }
 {
+    if used >= nodes.len() {
+        return;
+    }
     if declaration_at(text, at, entries).is_some() {
         let mut model = Writer::new(nodes, used, true);
         declaration(Source { text, entries }, at, &mut model);

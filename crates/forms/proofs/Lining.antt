@@ -5,12 +5,13 @@ use Rattle.engine.specs.declared.range.ByteRange.{ByteRange}
 use Rattle.models.specs.Expressions.{atoms}
 use Rattle.models.specs.Folds.{code}
 use Rattle.scan.specs.Names.{read_name}
-use Rattle.scan.specs.Readings.{bad, got, word, EndOf}
+use Rattle.scan.specs.Readings.{Front, bad, got, word, EndOf}
 use Rattle.scan.proofs.Ends.{worded, end_bad}
+use Rattle.scan.proofs.Writing.{puts_past}
 use Rattle.writing.specs.declared.writer.Writer.{Writer}
 use Rattle.writing.proofs.Writing.{atoms_in_code, atoms_in_le}
 use Rattle.forms.specs.Answers.{Nodes, FormAt, with_form}
-use Rattle.forms.specs.Grammar.{deepest}
+use Rattle.forms.specs.Grammar.{deepest, Form}
 use Rattle.forms.specs.Inner.{ExpressionAt, WritesAt}
 use Rattle.forms.specs.Readers.{read_expression, shut_line, with_shape, behind_name, with_name, behind_bracket, read_line}
 use Rattle.forms.specs.declared.lines.Lined.{Lined}
@@ -111,6 +112,15 @@ module _ (text : List ℕ) (at : ℕ) where
           small = omega (arith, is.small);
         },
       )
+
+  -- A table with no place left stays as it is.
+  pub form_past : (table : Nodes) (used : ℕ) → length table ≤ used → table ≡ with_form (read_line (drop at text)) table used
+  unfolding with_form
+  form_past table used h = by (read_line (drop at text))
+    where
+      by : (front : Front Form) → table ≡ with_form front table used
+      by bad = refl
+      by (got form rest) = sym (puts_past table used (code form.shape) h)
 
   pub form_none : (table : Nodes) (used : ℕ) (told : Option Lined) → is_some told ≡ false → FormAt text at told → table ≡ with_form (read_line (drop at text)) table used
   unfolding with_form

@@ -59,6 +59,9 @@ pub fn form_at(text: &[u8], at: usize) -> Option<Lined>
 pub fn write_form(text: &[u8], at: usize, nodes: &mut [Node<ByteRange>], used: usize)
     ensures { nodes.new ≡ with_form (read_line (drop at text.now)) nodes.old used }
 {
+    if used >= nodes.len() {
+        return;
+    }
     if form_at(text, at).is_some() {
         line(text, at, &mut Writer::new(nodes, used, ()));
     }

@@ -1,5 +1,5 @@
 -- The end of a comment.
-use Rattle.std.proofs.Common.{◌≡◌, ℕ, zero, suc, ◌+◌, ◌-◌, ◌<◌, ◌≤◌, Bool, true, false, not, ◌&&◌, eqb, List, ◌∷◌, length, get_or, drop, Some, None, codes, Option, sym, refl, ap, ◌∙◌, subst, inl, inr, arith}
+use Rattle.std.proofs.Common.{◌≡◌, ℕ, zero, suc, ◌+◌, ◌-◌, ◌<◌, ◌≤◌, Bool, true, false, not, ◌&&◌, eqb, List, [], ◌∷◌, length, get_or, drop, Some, None, codes, Option, sym, refl, ap, ◌∙◌, subst, inl, inr, arith}
 use Rattle.std.proofs.lemmas.List.{drop_more, drop_all}
 use Rattle.std.proofs.lemmas.Bool.{cases_lt, both_ways, eqb-true}
 use Rattle.std.proofs.lemmas.Bool.Decides.{nat_tests}
@@ -67,6 +67,21 @@ no_dash b e = by (eqb 45 b) refl
 
 dashes_turned : (b : ℕ) (t : List ℕ) (v : Bool) → two_dashes (b ∷ t) ≡ v → (eqb b 45 && first_is (eqb 45) t) ≡ v
 dashes_turned b t v e = ap (λ x. x && first_is (eqb 45) t) (eqb_turned b 45) ∙ e
+
+and-true : (x : Bool) → (x && true) ≡ x
+and-true true = refl
+and-true false = refl
+
+-- Where a dash stands, what a comment holds goes on if no second one follows, and elsewhere if a byte of text stands
+-- there.
+pub goes_on_dash : (t : List ℕ) → first_is (eqb 45) t ≡ true → goes_on t ≡ not (two_dashes t)
+goes_on_dash [] e = absurd (both_ways _ refl e)
+goes_on_dash (b ∷ t) e =
+    ap (λ x. x && not (two_dashes (b ∷ t))) (ap is_text_byte (sym (eqb-true 45 b e)))
+
+pub goes_on_plain : (t : List ℕ) → first_is (eqb 45) t ≡ false → goes_on t ≡ first_is is_text_byte t
+goes_on_plain t e =
+    ap (λ d. first_is is_text_byte t && not (d && first_is (eqb 45) (drop 1 t))) e ∙ and-true (first_is is_text_byte t)
 
 plain_front : (b : ℕ) (t : List ℕ) → goes_on (b ∷ t) ≡ true → comment_rest (b ∷ t) ≡ held b (comment_rest t)
 plain_front b t e =

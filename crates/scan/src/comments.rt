@@ -4,7 +4,7 @@ ghost use Rattle.std.specs.Prelude.{◌≡◌, drop};
 ghost use Rattle.scan.specs.Comments.{read_comment, comment_rest, goes_on, two_dashes, StopsAt};
 ghost use Rattle.scan.specs.Readings.{EndOf};
 
-use super::bytes::{is_text_byte, peek, rest};
+use super::bytes::{byte_is, is_text_byte, peek, rest};
 use super::words::word_end;
 
 // The place behind the comment, or none where no comment stands at the place.
@@ -34,7 +34,11 @@ fn stop(text: &[u8], at: usize) -> Option<usize>
 fn goes_on(text: &[u8], at: usize) -> bool
     ensures { result ≡ goes_on (drop at text.now) }
 {
-    peek(text, at).is_some_and(is_text_byte) && !two_dashes(rest(text, at))
+    if byte_is(text, at, b'-') {
+        !two_dashes(rest(text, at))
+    } else {
+        peek(text, at).is_some_and(is_text_byte)
+    }
 }
 
 // Whether two dashes stand at the front of the text.

@@ -1,7 +1,12 @@
 use Rattle.std.proofs.Common.{sym, ◌∙◌, rules}
 use Rattle.declarations.specs.Answers.{numbered_names}
-use Rattle.declarations.proofs.Heads.{model_none, model_some}
+use Rattle.declarations.proofs.Heads.{model_past, model_none, model_some}
 use Rattle.declarations.proofs.reading.write_model.Goals as goal
+
+pub returns-then-used-nodes : goal.returns-then-used-nodes
+returns-then-used-nodes c =
+    let text = c.args.text.now in
+    model_past text (numbered_names text c.args.entries.now) c.args.at c.args.nodes.now c.args.used c.if-used-nodes.true
 
 pub returns-then-is_some : goal.returns-then-is_some
 returns-then-is_some c =

@@ -1,6 +1,9 @@
 use Rattle.std.proofs.Common.{sym, ◌∙◌, rules}
-use Rattle.forms.proofs.Lining.{form_none, form_some}
+use Rattle.forms.proofs.Lining.{form_past, form_none, form_some}
 use Rattle.forms.proofs.lines.write_form.Goals as goal
+
+pub returns-then-used-nodes : goal.returns-then-used-nodes
+returns-then-used-nodes c = form_past c.args.text.now c.args.at c.args.nodes.now c.args.used c.if-used-nodes.true
 
 pub returns-then-is_some : goal.returns-then-is_some
 returns-then-is_some c =
