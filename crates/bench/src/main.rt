@@ -53,12 +53,13 @@ where
     Columns: Engine<Letter = Letter>,
 {
     for sample in samples {
-        let word = sample.word(rt.alloc())?;
+        let word = sample.word();
+        let word = word.letters();
         let number = sample.number();
         println!(rt; "{sample}, {} letters", word.len())?;
-        print_engine(rt, "derivative", slow, number, &word, timed)?;
-        print_engine(rt, "follow rows", rows, number, &word, timed)?;
-        print_engine(rt, "and columns", columns, number, &word, timed)?;
+        print_engine(rt, "derivative", slow, number, word, timed)?;
+        print_engine(rt, "follow rows", rows, number, word, timed)?;
+        print_engine(rt, "and columns", columns, number, word, timed)?;
     }
     Ok(())
 }
@@ -128,8 +129,8 @@ fn compare_one(
 // The star of an alternative of so many elements, and their sequence.
 fn compare_long(rt: &HostRuntime, last: u8, timed: bool) -> io::Result<()> {
     println!(rt; "models of {last} atoms")?;
-    compare_one(rt, &star(rt.alloc(), last)?, Sample::InTurn(last), timed)?;
-    compare_one(rt, &sequence(rt.alloc(), last)?, Sample::Once(last), timed)
+    compare_one(rt, &star(last), Sample::InTurn(last), timed)?;
+    compare_one(rt, &sequence(last), Sample::Once(last), timed)
 }
 
 // Whether the command line asks for the time. No other word may stand on it.

@@ -1,10 +1,10 @@
 // The models that are measured, those of a week and long ones, and the words that are read by them.
 
-ghost use Rattle.std.specs.Prelude.{◌≡◌, ◌+◌, ◌-◌, ◌*◌, length, IfOk};
+ghost use Rattle.std.specs.Prelude.{◌≡◌, ◌+◌, ◌-◌, ◌*◌, min, length};
 
+use arrayvec::ArrayVec;
 use engine::{ContentAtom, Letter};
 use models::{Model, Node};
-use std::alloc::{AllocError, Global};
 use std::fmt;
 
 // Kept: engines take an element by its number, a byte.
@@ -75,41 +75,78 @@ const SHEET_CHILDREN: [u8; 20] = [
     SHIFT, SHIFT, CORRECTION, CORRECTION, CORRECTION, CORRECTION, LOCK,
 ];
 
+// Places for the nodes of 255 elements, for the nodes that join them, and for one more.
+const NODE_PLACES: usize = 510;
+
 // How many letters a long word has.
 const LETTERS: usize = 63;
 
+pub type Nodes = ArrayVec<Node<ContentAtom>, NODE_PLACES>;
+
 // The nodes of the elements from 1 to the last one, each joined to those before it.
-fn joined(
-    alloc: Global,
-    last: u8,
-    join: Node<ContentAtom>,
-) -> Result<Vec<Node<ContentAtom>>, AllocError>
-    ensures { IfOk result (λ nodes. length nodes.items ≡ 2 * last - 1) }
+fn joined(last: u8, join: Node<ContentAtom>) -> Nodes
+    ensures { length result.items ≡ 2 * last - 1 }
 {
-    let mut nodes = Vec::new(alloc);
+    let mut nodes = Nodes::new();
     for before in 0..last {
-        nodes.push(Node::Atom(ContentAtom::Element(before + 1)))?;
+        nodes.push(Node::Atom(ContentAtom::Element(before + 1)));
         if before > 0 {
-            nodes.push(join)?;
+            nodes.push(join);
         }
     }
-    Ok(nodes)
+    nodes
 }
 
 // The star of the alternative of the elements from 1 to the last one.
-pub fn star(alloc: Global, last: u8) -> Result<Vec<Node<ContentAtom>>, AllocError>
-    ensures { IfOk result (λ nodes. length nodes.items ≡ (2 * last - 1) + 1) }
+pub fn star(last: u8) -> Nodes
+    ensures { length result.items ≡ (2 * last - 1) + 1 }
 {
-    let mut nodes = joined(alloc, last, Node::Alt)?;
-    nodes.push(Node::Star)?;
-    Ok(nodes)
+    let mut nodes = joined(last, Node::Alt);
+    nodes.push(Node::Star);
+    nodes
 }
 
 // The sequence of the elements from 1 to the last one.
-pub fn sequence(alloc: Global, last: u8) -> Result<Vec<Node<ContentAtom>>, AllocError>
-    ensures { IfOk result (λ nodes. length nodes.items ≡ 2 * last - 1) }
+pub fn sequence(last: u8) -> Nodes
+    ensures { length result.items ≡ 2 * last - 1 }
 {
-    joined(alloc, last, Node::Seq)
+    joined(last, Node::Seq)
+}
+
+// A word, in the first of its places.
+// Kept: an `ArrayVec` begins with defaults, and no letter is one.
+#[derive(Drop)]
+pub struct Word {
+    places: [Letter; 255],
+    count: u8,
+}
+
+impl Word {
+    fn empty() -> Word
+        ensures { result.count ≡ 0 }
+    {
+        Word {
+            places: [Letter::Text; 255],
+            count: 0,
+        }
+    }
+
+    // Adds a letter, where there is a place for it.
+    fn push(&mut self, letter: Letter)
+        ensures { self.new.count ≡ min (self.old.count + 1) 255 }
+    {
+        if self.count < 255 {
+            self.places[self.count as usize] = letter;
+            self.count += 1;
+        }
+    }
+
+    // The letters that were added.
+    pub fn letters(&self) -> &[Letter]
+        ensures { length result.now ≡ self.now.count }
+    {
+        &self.places[..self.count as usize]
+    }
 }
 
 // A word that the engines read.
@@ -151,44 +188,65 @@ impl Sample {
     }
 
     // The letters of the word.
-    pub fn word(self, alloc: Global) -> Result<Vec<Letter>, AllocError> {
+    pub fn word(self) -> Word {
         match self {
-            Sample::Sheet => elements(alloc, &SHEET_CHILDREN),
-            Sample::SheetWithoutShift => elements(alloc, &[WEEK, LOCK]),
-            Sample::Shift => elements(alloc, &[STAFF, HOURS]),
-            Sample::Correction => elements(alloc, &[STAFF, HOURS, NOTE]),
-            Sample::Note => note(alloc),
-            Sample::InTurn(last) => (1..=last)
-                .cycle()
-                .take(LETTERS)
-                .map(Letter::Element)
-                .collect(alloc),
-            Sample::Once(last) => (1..=last).map(Letter::Element).collect(alloc),
+            Sample::Sheet => elements(&SHEET_CHILDREN),
+            Sample::SheetWithoutShift => elements(&[WEEK, LOCK]),
+            Sample::Shift => elements(&[STAFF, HOURS]),
+            Sample::Correction => elements(&[STAFF, HOURS, NOTE]),
+            Sample::Note => note(),
+            Sample::InTurn(last) => in_turn(last),
+            Sample::Once(last) => once(last),
         }
     }
 }
 
-// The elements of these numbers.
-fn elements(alloc: Global, numbers: &[u8]) -> Result<Vec<Letter>, AllocError>
-    ensures { IfOk result (λ word. length word.items ≡ length numbers.now) }
+// The elements from 1 to the last one, again and again.
+fn in_turn(last: u8) -> Word
+    ensures { result.count ≡ 63 }
 {
-    numbers
-        .iter()
-        .map(|number| Letter::Element(*number))
-        .collect(alloc)
+    let mut word = Word::empty();
+    let mut number = 0;
+    for _turn in 0..LETTERS {
+        number = if number < last { number + 1 } else { 1 };
+        word.push(Letter::Element(number));
+    }
+    word
+}
+
+// The elements from 1 to the last one.
+fn once(last: u8) -> Word
+    ensures { result.count ≡ last }
+{
+    let mut word = Word::empty();
+    for before in 0..last {
+        word.push(Letter::Element(before + 1));
+    }
+    word
+}
+
+// The elements of these numbers, as far as there are places.
+fn elements(numbers: &[u8]) -> Word
+    ensures { result.count ≡ min (length numbers.now) 255 }
+{
+    let mut word = Word::empty();
+    for number in numbers {
+        word.push(Letter::Element(*number));
+    }
+    word
 }
 
 // A note's children: text and staff by turns.
-fn note(alloc: Global) -> Result<Vec<Letter>, AllocError>
-    ensures { IfOk result (λ word. length word.items ≡ 63) }
+fn note() -> Word
+    ensures { result.count ≡ 63 }
 {
-    (0..LETTERS)
-        .map(|i| {
-            if i % 2 == 0 {
-                Letter::Text
-            } else {
-                Letter::Element(STAFF)
-            }
-        })
-        .collect(alloc)
+    let mut word = Word::empty();
+    for i in 0..LETTERS {
+        word.push(if i % 2 == 0 {
+            Letter::Text
+        } else {
+            Letter::Element(STAFF)
+        });
+    }
+    word
 }
