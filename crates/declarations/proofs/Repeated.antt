@@ -122,6 +122,20 @@ pub seen_none : (names : List Name) → SeenIs names [] (record { set = 0; disti
 unfolding number_of
 seen_none names = record { came = λ y known h. absurd (has_none (number_of names y) h); comes = λ y known h. absurd (false≢true h); differ = λ known. refl }
 
+-- A set stays right where a name without a number is left out of it.
+pub seen_unnumbered : (names ns : List Name) (seen : Seen) → SeenIs names ns seen → (x : Name) → number_of names x ≡ 0 → SeenIs names (ns ++ (x ∷ [])) seen
+seen_unnumbered names ns seen s x none =
+    record {
+      came = λ y there h. listed_push ns x y ∙ ap (λ b. b || same x y) (s.came y there h);
+      comes = λ y there h. elim (or_cases (listed ns y) (same x y) (sym (listed_push ns x y) ∙ h)) [
+        | inl old ↦ s.comes y there old
+        | inr new ↦ absurd (listed_number names y there (ap (number_of names) (sym (same_equal x y new)) ∙ none))
+      ];
+      differ = λ known.
+          let p = and_parts (all_listed names ns) (all_listed names (x ∷ [])) (sym (all_listed_append names ns (x ∷ [])) ∙ known) in
+          absurd (listed_number names x (and_parts (listed names x) true p.1).0 none);
+    }
+
 module _ (names : List Name) (few : length names ≤ 63) (ns : List Name) (seen : Seen) (s : SeenIs names ns seen) (x : Name) (number : ℕ) (number_is : number ≡ number_of names x) (held : Bool) (holds : Decides held (Has seen.set number)) (bits : ℕ) (bits_is : bits ≡ bit_or seen.set (singleton number)) where
   small : number < 64
   small = let h = number_le names x in omega arith
