@@ -34,7 +34,7 @@ loop-call-preserved-then-sent-again g c =
     let (walked, same, resent) = c.loop-call.invariant in
     let (some, call-at, _) = in_front calls n c.in-Some.call.now _ (sym c.in-Some.ensures.steps.0 ∙ walked.left_is) in
     let (room, answer-at, _) = in_front answers n c.in-Some.answer.now _ (sym c.in-Some.ensures.steps.1 ∙ walked.told_is) in
-    let stays = refused_unless c.in-Some.answer.now c.is_ok.result c.is_ok.ensures.value in
+    let stays = refused_unless c.in-Some.answer.now c.is_ok.result (search rules) in
     let granted = subst (λ a. IsRefused (shown a) ≡ false) (answer-at (Ok Accepted)) (stays ∙ ap not c.if-is_ok.true) in
     let moved = subst (λ e. Moved (meaning g.C.Engine g.V.Engine e) s t (sent c.in-Some.call.now) (shown result)) same c.answer.ensures.moved in
     let told = subst (λ call. Moved M s t (sent call) (shown result)) (call-at (Begin 0)) moved in
@@ -60,7 +60,7 @@ loop-call-preserved g c =
     let (walked, same, resent) = c.loop-call.invariant in
     let (some, call-at, _) = in_front calls n c.in-Some.call.now _ (sym c.in-Some.ensures.steps.0 ∙ walked.left_is) in
     let (room, answer-at, _) = in_front answers n c.in-Some.answer.now _ (sym c.in-Some.ensures.steps.1 ∙ walked.told_is) in
-    let stays = subst (λ a. IsRefused (shown a) ≡ not c.is_ok.result) (answer-at (Ok Accepted)) (refused_unless c.in-Some.answer.now c.is_ok.result c.is_ok.ensures.value) in
+    let stays = subst (λ a. IsRefused (shown a) ≡ not c.is_ok.result) (answer-at (Ok Accepted)) (refused_unless c.in-Some.answer.now c.is_ok.result (search rules)) in
     let next = walked_more calls answers c.next.new.self.a.rest.now c.next.new.self.b.rest.now c.in-Some.call.now c.in-Some.answer.now n
     (subst₂ (λ left told. Walked calls answers left told n) c.in-Some.ensures.steps.0 c.in-Some.ensures.steps.1 walked) in
     subst (λ k. Walked calls answers c.next.new.self.a.rest.now c.next.new.self.b.rest.now k × (c.loop-call.sheet.engines ≡ c.args.engines)
